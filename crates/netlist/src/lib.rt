@@ -1,0 +1,3 @@
+// Kinds of gates, refusals, gate rows; a draft of a netlist, and the closed netlist.
+pub mod kind;
+pub mod refusal;

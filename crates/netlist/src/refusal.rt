@@ -1,0 +1,52 @@
+// Every refusal of the simulator, with its number and its word.
+ghost use mathlib.Core.Path.{_≡_};
+ghost use Rattle.netlist.specs.Refusals.{number};
+
+#[derive(Clone, Copy, PartialEq, Eq, Debug)]
+pub enum Refusal {
+    Cut,
+    Letter,
+    Length,
+    Figure,
+    Range,
+    Turn,
+    Kind,
+    Open,
+    Free,
+    Store,
+    Starts,
+    Line,
+    Past,
+    Late,
+    Unsettled,
+    Full,
+    Idle,
+    None,
+}
+
+impl Refusal {
+    pub fn number(self) -> u8
+        ensures { λ r. ⌜ r ≡ number self ⌝ }
+    {
+        match self {
+            Refusal::Cut => 1,
+            Refusal::Letter => 2,
+            Refusal::Length => 3,
+            Refusal::Figure => 4,
+            Refusal::Range => 5,
+            Refusal::Turn => 6,
+            Refusal::Kind => 7,
+            Refusal::Open => 8,
+            Refusal::Free => 9,
+            Refusal::Store => 10,
+            Refusal::Starts => 11,
+            Refusal::Line => 12,
+            Refusal::Past => 13,
+            Refusal::Late => 14,
+            Refusal::Unsettled => 15,
+            Refusal::Full => 16,
+            Refusal::Idle => 17,
+            Refusal::None => 18,
+        }
+    }
+}

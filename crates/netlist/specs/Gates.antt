@@ -1,18 +1,54 @@
--- Gates as the subject has them: a kind, a delay and the lines read.
-use mathlib.Core.Bool.{Bool, _&&_}
-use mathlib.Core.List.{List}
-use Prim.Native.Nat.{ℕ}
+-- Gates and circuits as the subject has them, apart from how they are stored.
+use mathlib.Core.Bool.{Bool, true, _&&_}
+use mathlib.Core.List.{List, [], _∷_}
+use Prim.Native.Nat.{ℕ, _+_}
 use lib.Dec.{leb, eqb}
+use lib.ListN.{length}
 use Rattle.netlist.specs.declared.kind.Kind.{Kind}
 use Rattle.netlist.specs.declared.kind.Kind.the-variants.{Buf, Not, And, Or, Xor, Nand, Nor, Xnor}
 
--- a gate with one input, or one that folds two to four
+-- a gate, with the lines it reads from first to last
+pub record Gate : Type 0 where
+  pub kind : Kind
+  pub delay : ℕ
+  pub reads : List ℕ
+
+-- lines are numbered from 1: first the inputs, then the gates, each driving one line
+pub record Circuit : Type 0 where
+  pub inputs : ℕ
+  pub gates : List Gate
+  pub outputs : List ℕ
+
+-- the circuit without lines
+abbrev pub nothing : Circuit
+nothing = record { inputs = 0; gates = []; outputs = [] }
+
+abbrev pub in-range : ℕ → ℕ → ℕ → Bool
+in-range least most n = leb least n && leb n most
+
+-- BUF and NOT have one input, the others two to four
 abbrev pub fits : Kind → ℕ → Bool
 fits Buf n = eqb n 1
 fits Not n = eqb n 1
-fits And n = leb 2 n && leb n 4
-fits Or n = leb 2 n && leb n 4
-fits Xor n = leb 2 n && leb n 4
-fits Nand n = leb 2 n && leb n 4
-fits Nor n = leb 2 n && leb n 4
-fits Xnor n = leb 2 n && leb n 4
+fits And n = in-range 2 4 n
+fits Or n = in-range 2 4 n
+fits Xor n = in-range 2 4 n
+fits Nand n = in-range 2 4 n
+fits Nor n = in-range 2 4 n
+fits Xnor n = in-range 2 4 n
+
+-- a delay is 1 to 65,535 ticks
+abbrev pub delay-fits : ℕ → Bool
+delay-fits d = in-range 1 65535 d
+
+abbrev pub every : {X : Type 0} → (X → Bool) → List X → Bool
+every passes [] = true
+every passes (x ∷ xs) = passes x && every passes xs
+
+-- each of them is a line of a netlist with so many lines
+abbrev pub on-lines : ℕ → List ℕ → Bool
+on-lines lines ns = every (in-range 1 lines) ns
+
+-- a gate that a netlist with so many lines may have
+abbrev pub legal : ℕ → Gate → Bool
+legal lines g = delay-fits (g .delay) && on-lines lines (g .reads) && fits (g .kind) (length (g .reads))

@@ -1,2 +1,4 @@
+pub mod Drafts
 pub mod Gates
 pub mod Refusals
+pub mod Rows

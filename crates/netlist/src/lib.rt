@@ -1,3 +1,5 @@
 // Kinds of gates, refusals, gate rows; a draft of a netlist, and the closed netlist.
+pub mod draft;
 pub mod kind;
 pub mod refusal;
+pub mod row;

@@ -1,0 +1,4 @@
+pub mod Answered
+pub mod Ranges
+pub mod Sheets
+pub mod Tables

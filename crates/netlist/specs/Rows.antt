@@ -1,0 +1,19 @@
+-- Which gates the rows of a table stand for.
+use mathlib.Core.List.{List, [], _∷_, map}
+use mathlib.Core.Bool.{false}
+use Prim.Native.Nat.{ℕ}
+use lib.ListN.{take}
+use Rattle.netlist.specs.declared.row.GateRow.{GateRow}
+use Rattle.netlist.specs.declared.kind.Kind.{Kind}
+use Rattle.netlist.specs.Gates.{Gate}
+
+-- a row that no gate has filled
+abbrev pub empty : GateRow
+empty = record { kind = Kind.Buf; delay = 0; lines = 0 ∷ 0 ∷ 0 ∷ 0 ∷ []; count = 0; looped = false }
+
+abbrev pub gate-of : GateRow → Gate
+gate-of row = record { kind = row .kind; delay = row .delay; reads = take (row .count) (row .lines) }
+
+-- the gates of the first rows
+abbrev pub gates-of : ℕ → List GateRow → List Gate
+gates-of n rows = map gate-of (take n rows)

@@ -1,4 +1,6 @@
 pub mod Answered
 pub mod Ranges
+pub mod Reading
+pub mod Searching
 pub mod Sheets
 pub mod Tables

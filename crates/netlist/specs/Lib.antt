@@ -2,3 +2,5 @@ pub mod Drafts
 pub mod Gates
 pub mod Refusals
 pub mod Rows
+pub mod Searches
+pub mod Walks

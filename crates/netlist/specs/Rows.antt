@@ -11,6 +11,10 @@ use Rattle.netlist.specs.Gates.{Gate}
 abbrev pub empty : GateRow
 empty = record { kind = Kind.Buf; delay = 0; lines = 0 ∷ 0 ∷ 0 ∷ 0 ∷ []; count = 0; looped = false }
 
+-- what a look past the end of a table gives
+abbrev pub no-row : GateRow
+no-row = record { kind = Kind.Buf; delay = 0; lines = []; count = 0; looped = false }
+
 abbrev pub gate-of : GateRow → Gate
 gate-of row = record { kind = row .kind; delay = row .delay; reads = take (row .count) (row .lines) }
 

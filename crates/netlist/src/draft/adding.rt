@@ -11,7 +11,7 @@ use crate::kind::Kind;
 use crate::refusal::Refusal;
 use crate::row::GateRow;
 
-fn in_range(n: usize, least: usize, most: usize) -> bool
+pub(super) fn in_range(n: usize, least: usize, most: usize) -> bool
     ensures { λ r. ⌜ r ≡ in-range least most n ⌝ }
 {
     least <= n && n <= most

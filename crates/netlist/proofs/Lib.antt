@@ -1,4 +1,5 @@
 pub mod Answered
+pub mod Closing
 pub mod Ranges
 pub mod Reading
 pub mod Searching

@@ -7,7 +7,7 @@ use lib.Dec.{ltb, eqb}
 use lib.ListN.{length, take}
 use Rattle.std.proofs.shelf.Lists.{length-take-le}
 use Rattle.netlist.specs.declared.draft.Draft.{Draft}
-use Rattle.netlist.specs.Drafts.{sheet, takes-gate, takes-output}
+use Rattle.netlist.specs.Drafts.{sheet, takes-gate, takes-output, complete}
 use Rattle.netlist.specs.Rows.{gates-of}
 use Rattle.netlist.proofs.Tables.{length-gates-of}
 
@@ -26,3 +26,6 @@ takes-gate-is d = ap (λ n. ltb n (d .gates)) (drawn-is d)
 
 pub takes-output-is : (d : Draft) → takes-output (sheet d) ≡ (eqb (d .drawn) (d .gates) && ltb (d .named) (d .outputs))
 takes-output-is d = ap (λ n. eqb n (d .gates) && ltb (length (sheet d .circuit .outputs)) (d .outputs)) (drawn-is d) ∙ ap (λ n. eqb (d .drawn) (d .gates) && ltb n (d .outputs)) (named-is d)
+
+pub complete-is : (d : Draft) → complete (sheet d) ≡ (ltb 0 (d .gates) && eqb (d .drawn) (d .gates) && eqb (d .named) (d .outputs))
+complete-is d = ap (λ n. ltb 0 (d .gates) && eqb n (d .gates) && eqb (length (sheet d .circuit .outputs)) (d .outputs)) (drawn-is d) ∙ ap (λ n. ltb 0 (d .gates) && eqb (d .drawn) (d .gates) && eqb n (d .outputs)) (named-is d)

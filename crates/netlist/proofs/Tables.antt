@@ -47,3 +47,11 @@ length-gates-of n rows within = length-map (take n rows) gate-of ∙ length-take
 pub gate-of-place : (n k : ℕ) (rows : List GateRow) → n ≤ length rows → k < n → getD (gates-of n rows) k no-gate ≡ gate-of (getD rows k no-row)
 gate-of-place n k rows fits within =
     getD-map gate-of (take n rows) k no-row no-gate (rw (length-take-le n rows fits) within) ∙ ap gate-of (getD-take n rows k no-row within)
+
+-- a row that stands for the same gate as the one it replaces leaves the gates as they were
+pub gates-of-same : (n : ℕ) (rows : List GateRow) (k : ℕ) (row : GateRow) → gate-of row ≡ gate-of (getD rows k no-row) → gates-of n (set rows k row) ≡ gates-of n rows
+gates-of-same n [] k row same = refl
+gates-of-same zero (r ∷ rs) zero row same = refl
+gates-of-same (suc n) (r ∷ rs) zero row same = ap (λ g. g ∷ gates-of n rs) same
+gates-of-same zero (r ∷ rs) (suc k) row same = refl
+gates-of-same (suc n) (r ∷ rs) (suc k) row same = ap (λ gs. gate-of r ∷ gs) (gates-of-same n rs k row same)

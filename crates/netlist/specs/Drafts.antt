@@ -3,11 +3,11 @@ use mathlib.Core.Bool.{Bool, true, false, _&&_, cond}
 use mathlib.Core.List.{List, [], _∷_, _++_}
 use Prim.Native.Nat.{ℕ, _+_}
 use lib.Dec.{leb, ltb, eqb}
-use lib.ListN.{length, take}
+use lib.ListN.{length}
 use Rattle.netlist.specs.declared.draft.Draft.{Draft}
 use Rattle.netlist.specs.declared.kind.Kind.{Kind}
 use Rattle.netlist.specs.Gates.{Gate, Circuit, nothing, in-range, fits, delay-fits, on-lines}
-use Rattle.netlist.specs.Rows.{gates-of}
+use Rattle.netlist.specs.Rows.{circuit-of}
 
 -- how many gates and outputs a draft was opened for, and what stands in it so far
 pub record Sheet : Type 0 where
@@ -19,7 +19,7 @@ abbrev pub sheet : Draft → Sheet
 sheet d = record {
   gates = d .gates;
   outputs = d .outputs;
-  circuit = record { inputs = d .inputs; gates = gates-of (d .drawn) (d .rows); outputs = take (d .named) (d .ends) };
+  circuit = circuit-of (d .inputs) (d .drawn) (d .named) (d .rows) (d .ends);
 }
 
 -- 1 to 256 inputs, 1 to 768 gates, 1 to 256 outputs
@@ -82,3 +82,7 @@ with-output s n = record {
   outputs = s .outputs;
   circuit = record { inputs = s .circuit .inputs; gates = s .circuit .gates; outputs = s .circuit .outputs ++ (n ∷ []) };
 }
+
+-- all the gates and outputs that it was opened for stand in it; a dead draft is never complete
+abbrev pub complete : Sheet → Bool
+complete s = ltb 0 (s .gates) && eqb (length (s .circuit .gates)) (s .gates) && eqb (length (s .circuit .outputs)) (s .outputs)

@@ -5,7 +5,7 @@ use Prim.Native.Nat.{ℕ}
 use lib.ListN.{take}
 use Rattle.netlist.specs.declared.row.GateRow.{GateRow}
 use Rattle.netlist.specs.declared.kind.Kind.{Kind}
-use Rattle.netlist.specs.Gates.{Gate}
+use Rattle.netlist.specs.Gates.{Gate, Circuit}
 
 -- a row that no gate has filled
 abbrev pub empty : GateRow
@@ -21,3 +21,7 @@ gate-of row = record { kind = row .kind; delay = row .delay; reads = take (row .
 -- the gates of the first rows
 abbrev pub gates-of : ℕ → List GateRow → List Gate
 gates-of n rows = map gate-of (take n rows)
+
+-- the circuit of so many inputs, gates and outputs that stand in tables
+abbrev pub circuit-of : ℕ → ℕ → ℕ → List GateRow → List ℕ → Circuit
+circuit-of inputs gates outputs rows ends = record { inputs = inputs; gates = gates-of gates rows; outputs = take outputs ends }

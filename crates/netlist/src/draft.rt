@@ -8,6 +8,8 @@ ghost use Rattle.netlist.specs.Rows.{no-row, gates-of};
 use crate::row::GateRow;
 
 pub mod adding;
+pub mod closing;
+pub mod judging;
 pub mod opening;
 mod search;
 mod walking;

@@ -45,7 +45,7 @@ impl Draft {
     }
 
     // Whether a walk leads to a line from one of the lines from first to last.
-    fn leads(&self, first: usize, last: usize, to: u32) -> bool
+    pub(super) fn leads(&self, first: usize, last: usize, to: u32) -> bool
         ensures yes { λ r. ⌜ (r ≡ true → Leads (sheet (now (self .entry)) .circuit) first last to) ⌝ }
         ensures no { λ r. ⌜ (r ≡ false → Leads (sheet (now (self .entry)) .circuit) first last to → ⊥) ⌝ }
     {

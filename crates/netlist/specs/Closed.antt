@@ -1,0 +1,24 @@
+-- A closed netlist as its reader sees it.
+use mathlib.Core.Path.{_≡_}
+use mathlib.Core.Logic.{_⊎_}
+use Prim.Native.Nat.{ℕ, _+_, _<_, _≤_}
+use lib.ListN.{length, getD}
+use Rattle.std.specs.declared.option.Option.{Option}
+use Rattle.std.specs.declared.option.Option.the-variants.{Some, None}
+use Rattle.netlist.specs.declared.closed.Netlist.{Netlist}
+use Rattle.netlist.specs.declared.row.GateRow.{GateRow}
+use Rattle.netlist.specs.Gates.{Circuit}
+use Rattle.netlist.specs.Rows.{gate-of, circuit-of}
+use Rattle.netlist.specs.Walks.{no-gate}
+
+abbrev pub circuit : Netlist → Circuit
+circuit n = circuit-of (n .inputs) (n .gates) (n .outputs) (n .rows) (n .ends)
+
+-- the row of the gate that drives a line; there is none for an input, or past the last line
+abbrev pub Row : Circuit → ℕ → Option GateRow → Type 0
+Row c n None = (n ≤ c .inputs) ⊎ (c .inputs + length (c .gates) < n)
+Row c n (Some row) = (k : ℕ) × (k < length (c .gates)) × (n ≡ c .inputs + 1 + k) × (getD (c .gates) k no-gate ≡ gate-of row)
+
+abbrev pub Output : Circuit → ℕ → Option ℕ → Type 0
+Output c k None = length (c .outputs) ≤ k
+Output c k (Some n) = (k < length (c .outputs)) × (getD (c .outputs) k 0 ≡ n)

@@ -1,4 +1,13 @@
 // Numbers in columns: a field of a record, right-justified after blanks.
+ghost use mathlib.Core.Path.{_≡_};
+ghost use mathlib.Core.List.{_++_};
+ghost use Prim.Native.Nat.{ℕ, _^_, _<_, _≤_};
+ghost use lib.ListN.{length, getD, drop, replicate};
+ghost use Rattle.std.specs.Numbers.{Checked};
+ghost use Rattle.std.specs.Options.{Cases};
+ghost use Rattle.std.specs.Reads.{Digits, value};
+ghost use Rattle.std.specs.Written.{decimal};
+ghost use Rattle.columns.specs.Spelling.{Means};
 
 // What stands in the columns of a number field.
 #[derive(Clone, Copy, PartialEq, Eq, Debug)]
@@ -6,4 +15,61 @@ pub enum Field {
     Number(u64),
     Blank,
     Unreadable,
+}
+
+impl Field {
+    // The number that the columns spell, its last digit in the last of them.
+    pub fn read(text: &[u8]) -> Field
+        ensures means { λ r. ⌜ Means (now (text .entry)) r ⌝ }
+        ensures only { λ r. ⌜ ((f : Field) → Means (now (text .entry)) f → f ≡ r) ⌝ }
+    {
+        let blanks = blanks_before(text);
+        if blanks == text.len() {
+            return Field::Blank;
+        }
+        match number(&text[blanks..]) {
+            Some(n) => Field::Number(n),
+            None => Field::Unreadable,
+        }
+    }
+}
+
+// How many blanks the text begins with.
+fn blanks_before(text: &[u8]) -> usize
+    ensures within { λ r. ⌜ r ≤ length (now (text .entry)) ⌝ }
+    ensures blank { λ r. ⌜ now (text .entry) ≡ replicate r 32 ++ drop r (now (text .entry)) ⌝ }
+    ensures stops { λ r. ⌜ (getD (now (text .entry)) r 0 ≡ 32 → ⊥) ⌝ }
+{
+    for (i, byte) in text.iter().enumerate() {
+        if *byte != b' ' {
+            return i;
+        }
+    }
+    text.len()
+}
+
+// The number of which the digits are the decimal: a leading 0 stands only in the number 0.
+fn number(digits: &[u8]) -> Option<u64>
+    ensures { λ r. ⌜ Cases r ((n : ℕ) → n < 2 ^ 64 → now (digits .entry) ≡ decimal n → ⊥) (λ n. (n < 2 ^ 64) × (now (digits .entry) ≡ decimal n)) ⌝ }
+{
+    match digits {
+        [] => None,
+        [b'0', _, ..] => None,
+        _ => value_of(digits),
+    }
+}
+
+// The value of the digits, or nothing where a byte is no digit or the value does not fit.
+fn value_of(digits: &[u8]) -> Option<u64>
+    ensures { λ r. ⌜ Checked r (Digits 10 (now (digits .entry)) × (value 10 (now (digits .entry)) < 2 ^ 64)) (value 10 (now (digits .entry))) ⌝ }
+{
+    let mut total: u64 = 0;
+    for digit in digits {
+        if !digit.is_ascii_digit() {
+            return None;
+        }
+        let shifted = total.checked_mul(10)?;
+        total = shifted.checked_add(u64::from(*digit - b'0'))?;
+    }
+    Some(total)
 }

@@ -1,1 +1,3 @@
+mod Readings
 pub mod Spelled
+mod Turns

@@ -9,6 +9,10 @@ ghost use Rattle.std.specs.Reads.{Digits, value};
 ghost use Rattle.std.specs.Written.{decimal};
 ghost use Rattle.columns.specs.Spelling.{Means};
 
+const BLANK: u8 = b' ';
+const ZERO: u8 = b'0';
+const BASE: u64 = 10;
+
 // What stands in the columns of a number field.
 #[derive(Clone, Copy, PartialEq, Eq, Debug)]
 pub enum Field {
@@ -41,7 +45,7 @@ fn blanks_before(text: &[u8]) -> usize
     ensures stops { λ r. ⌜ (getD (now (text .entry)) r 0 ≡ 32 → ⊥) ⌝ }
 {
     for (i, byte) in text.iter().enumerate() {
-        if *byte != b' ' {
+        if *byte != BLANK {
             return i;
         }
     }
@@ -52,11 +56,13 @@ fn blanks_before(text: &[u8]) -> usize
 fn number(digits: &[u8]) -> Option<u64>
     ensures { λ r. ⌜ Cases r ((n : ℕ) → n < 2 ^ 64 → now (digits .entry) ≡ decimal n → ⊥) (λ n. (n < 2 ^ 64) × (now (digits .entry) ≡ decimal n)) ⌝ }
 {
-    match digits {
-        [] => None,
-        [b'0', _, ..] => None,
-        _ => value_of(digits),
+    if digits.is_empty() {
+        return None;
     }
+    if digits[0] == ZERO && digits.len() > 1 {
+        return None;
+    }
+    value_of(digits)
 }
 
 // The value of the digits, or nothing where a byte is no digit or the value does not fit.
@@ -68,8 +74,8 @@ fn value_of(digits: &[u8]) -> Option<u64>
         if !digit.is_ascii_digit() {
             return None;
         }
-        let shifted = total.checked_mul(10)?;
-        total = shifted.checked_add(u64::from(*digit - b'0'))?;
+        let shifted = total.checked_mul(BASE)?;
+        total = shifted.checked_add(u64::from(*digit - ZERO))?;
     }
     Some(total)
 }

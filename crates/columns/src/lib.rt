@@ -1,13 +1,15 @@
 // Numbers in columns: a field of a record, right-justified after blanks.
 ghost use mathlib.Core.Path.{_≡_};
 ghost use mathlib.Core.List.{_++_};
-ghost use Prim.Native.Nat.{ℕ, _^_, _<_, _≤_};
+ghost use Prim.Native.Nat.{ℕ, _-_, _^_, _<_, _≤_};
+ghost use mathlib.Core.Bool.{true, false};
 ghost use lib.ListN.{length, getD, drop, replicate};
 ghost use Rattle.std.specs.Numbers.{Checked};
 ghost use Rattle.std.specs.Options.{Cases};
+ghost use Rattle.std.specs.Orderings.{Decides};
 ghost use Rattle.std.specs.Reads.{Digits, value};
 ghost use Rattle.std.specs.Written.{decimal};
-ghost use Rattle.columns.specs.Spelling.{Means};
+ghost use Rattle.columns.specs.Spelling.{Means, spelled};
 
 const BLANK: u8 = b' ';
 const ZERO: u8 = b'0';
@@ -78,4 +80,48 @@ fn value_of(digits: &[u8]) -> Option<u64>
         total = shifted.checked_add(u64::from(*digit - ZERO))?;
     }
     Some(total)
+}
+
+// Writes the number over all the columns, blanks before it. Where it does not fit, the columns stay as they were.
+pub fn write(number: u64, columns: &mut [u8]) -> bool
+    ensures fits { λ r. ⌜ Decides r (length (decimal number) ≤ length (now (columns .entry))) ⌝ }
+    ensures spells { λ r. ⌜ (r ≡ true → now (columns .exit) ≡ spelled (length (now (columns .entry))) number) ⌝ }
+    ensures keeps { λ r. ⌜ (r ≡ false → now (columns .exit) ≡ now (columns .entry)) ⌝ }
+{
+    if columns.len() < digit_count(number) {
+        return false;
+    }
+    let first = put_digits(number, columns);
+    columns[..first].fill(BLANK);
+    true
+}
+
+// How many digits the number's decimal has.
+fn digit_count(number: u64) -> usize
+    ensures { λ r. ⌜ r ≡ length (decimal number) ⌝ }
+{
+    let mut count = 1;
+    let mut rest = number;
+    while rest >= BASE {
+        rest /= BASE;
+        count += 1;
+    }
+    count
+}
+
+// Writes the digits into the last columns, from the right, and says where the first stands.
+fn put_digits(number: u64, columns: &mut [u8]) -> usize
+    requires { ⌜ length (decimal number) ≤ length (now columns) ⌝ }
+    ensures place { λ r. ⌜ r ≡ length (now (columns .entry)) - length (decimal number) ⌝ }
+    ensures digits { λ r. ⌜ drop r (now (columns .exit)) ≡ decimal number ⌝ }
+{
+    let mut at = columns.len() - 1;
+    let mut rest = number;
+    while rest >= BASE {
+        columns[at] = ZERO + (rest % BASE) as u8;
+        rest /= BASE;
+        at -= 1;
+    }
+    columns[at] = ZERO + rest as u8;
+    at
 }

@@ -53,8 +53,7 @@ module _ (text : List ℕ) (r : ℕ) (front : text ≡ replicate r 32 ++ drop r 
   -- where the byte after the blanks is no blank, the text is neither a spelling nor blank
   pub unreadable-if-neither : (getD text r 0 ≡ 32 → ⊥) → r < length text → ((n : ℕ) → n < 2 ^ 64 → between r (length text) text ≡ decimal n → ⊥) → Means text Unreadable
   unreadable-if-neither stops more none =
-      let stop : getD (drop r text) 0 0 ≡ 32 → ⊥ = rw (getD-drop, add-zero) stops in
-      (
+      let stop : getD (drop r text) 0 0 ≡ 32 → ⊥ = rw (getD-drop, add-zero) stops in (
         λ n p. none n (p .0) (take-rest text r ∙ after-blanks-same r _ (drop r text) (decimal n) stop (decimal-no-blank n (p .0)) (sym front ∙ p .1)),
         λ b.
             let empty : drop r text ≡ [] = after-blanks-same r (length text) (drop r text) [] stop (λ z. omega arith) (sym front ∙ b ∙ sym (append-nil _)) in

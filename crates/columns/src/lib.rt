@@ -12,7 +12,9 @@ ghost use Rattle.std.specs.Written.{decimal};
 ghost use Rattle.columns.specs.Spelling.{Means, spelled};
 
 const BLANK: u8 = b' ';
+
 const ZERO: u8 = b'0';
+
 const BASE: u64 = 10;
 
 // What stands in the columns of a number field.
@@ -124,4 +126,54 @@ fn put_digits(number: u64, columns: &mut [u8]) -> usize
     }
     columns[at] = ZERO + rest as u8;
     at
+}
+
+#[cfg(test)]
+mod tests {
+    use super::*;
+    use std::test::*;
+
+    #[test]
+    fn reads_each_kind_of_field() -> Result<(), Fail> {
+        let fields: [(&[u8], Field); 17] = [
+            (b"   1", Field::Number(1)),
+            (b"   0", Field::Number(0)),
+            (b"1203", Field::Number(1203)),
+            (b"  18446744073709551615", Field::Number(u64::MAX)),
+            (
+                b"10000000000000000000",
+                Field::Number(10_000_000_000_000_000_000),
+            ),
+            (b"    ", Field::Blank),
+            (b"", Field::Blank),
+            (b"  18446744073709551616", Field::Unreadable),
+            (b"99999999999999999999", Field::Unreadable),
+            (b"  01", Field::Unreadable),
+            (b"  1 ", Field::Unreadable),
+            (b"1 23", Field::Unreadable),
+            (b"-  1", Field::Unreadable),
+            (b"+  1", Field::Unreadable),
+            (b"  1\r", Field::Unreadable),
+            (b"  1\0", Field::Unreadable),
+            (b"\xff  1", Field::Unreadable),
+        ];
+        for (text, field) in fields {
+            check_eq(Field::read(text), field)?;
+        }
+        Ok(())
+    }
+
+    #[test]
+    fn writes_over_all_columns() -> Result<(), Fail> {
+        let mut columns = *b"xxxxx";
+        check(write(0, &mut columns))?;
+        check_eq(columns, *b"    0")?;
+        check(write(1203, &mut columns))?;
+        check_eq(columns, *b" 1203")?;
+        check(write(98765, &mut columns))?;
+        check_eq(columns, *b"98765")?;
+        check(!write(100_000, &mut columns))?;
+        check_eq(columns, *b"98765")?;
+        check(!write(0, &mut []))
+    }
 }

@@ -7,7 +7,6 @@ use native.Mathlib.Nat.{add-zero}
 use native.Mathlib.Omega.{arith}
 use lib.ListN.{length, getD, drop, replicate, length-append, length-replicate, length-drop}
 use lib.Seq.{getD-drop}
-use Rattle.std.specs.shelf.Lists.{between}
 use Rattle.std.specs.Numbers.{Checked}
 use Rattle.std.specs.Options.{Cases}
 use Rattle.std.specs.Reads.{Digits, value}
@@ -15,7 +14,7 @@ use Rattle.std.specs.Written.{decimal}
 use Rattle.std.specs.declared.option.Option.{Option}
 use Rattle.std.specs.declared.option.Option.the-variants.{Some, None}
 use Rattle.std.proofs.shelf.Decimals.{decimal-reads, decimal-some, decimal-digit, decimal-value, first-decimal}
-use Rattle.std.proofs.shelf.Lists.{take-rest, drop-all}
+use Rattle.std.proofs.shelf.Lists.{drop-all}
 use Rattle.std.proofs.shelf.Numerals.{numerals-by-value, tells-digits}
 use Rattle.std.proofs.shelf.Tests.{cases-lt}
 use Rattle.columns.specs.declared.Field.{Field}
@@ -44,17 +43,17 @@ module _ (text : List ℕ) (r : ℕ) (front : text ≡ replicate r 32 ++ drop r 
       ∙ append-nil (replicate r 32)
       ∙ ap (λ n. replicate n 32) all
 
-  pub number-if-decimal : (n : ℕ) → n < 2 ^ 64 → between r (length text) text ≡ decimal n → Means text (Number n)
-  number-if-decimal n small e =
-      let is = sym (take-rest text r) ∙ e in
+  pub number-if-decimal : (n : ℕ) (ds : List ℕ) → (n < 2 ^ 64) × (ds ≡ decimal n) → ds ≡ drop r text → Means text (Number n)
+  number-if-decimal n ds decimal-of whole =
+      let is = sym whole ∙ decimal-of .1 in
       let count : r ≡ length text - length (decimal n) = omega (arith, ap length front, length-append (replicate r 32) (drop r text), length-replicate {A = ℕ} r 32, ap length is) in
-      (small, front ∙ (λ i. replicate (count i) 32 ++ is i))
+      (decimal-of .0, front ∙ (λ i. replicate (count i) 32 ++ is i))
 
   -- where the byte after the blanks is no blank, the text is neither a spelling nor blank
-  pub unreadable-if-neither : (getD text r 0 ≡ 32 → ⊥) → r < length text → ((n : ℕ) → n < 2 ^ 64 → between r (length text) text ≡ decimal n → ⊥) → Means text Unreadable
-  unreadable-if-neither stops more none =
+  pub unreadable-if-neither : (getD text r 0 ≡ 32 → ⊥) → r < length text → (ds : List ℕ) → ((n : ℕ) → n < 2 ^ 64 → ds ≡ decimal n → ⊥) → ds ≡ drop r text → Means text Unreadable
+  unreadable-if-neither stops more ds none whole =
       let stop : getD (drop r text) 0 0 ≡ 32 → ⊥ = rw (getD-drop, add-zero) stops in (
-        λ n p. none n (p .0) (take-rest text r ∙ after-blanks-same r _ (drop r text) (decimal n) stop (decimal-no-blank n (p .0)) (sym front ∙ p .1)),
+        λ n p. none n (p .0) (whole ∙ after-blanks-same r _ (drop r text) (decimal n) stop (decimal-no-blank n (p .0)) (sym front ∙ p .1)),
         λ b.
             let empty : drop r text ≡ [] = after-blanks-same r (length text) (drop r text) [] stop (λ z. omega arith) (sym front ∙ b ∙ sym (append-nil _)) in
             omega (arith, length-drop r text, ap length empty),

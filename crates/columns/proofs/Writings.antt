@@ -19,8 +19,10 @@ pub record Counted (number rest count : ℕ) : Type 0 where
 pub counted-none : (n : ℕ) → n < 2 ^ 64 → Counted n n 1
 counted-none n small = record { small = small; digits = refl }
 
-pub counted-more : (number rest count : ℕ) → 10 ≤ rest → Counted number rest count → Counted number (rest / 10) (count + 1)
-counted-more number rest count big so = record { small = omega (arith, so .small); digits = omega (arith, so .digits, length-decimal-step rest big (so .small)) }
+pub counted-more : (number rest count : ℕ) → Counted number rest count → 10 ≤ rest → (next : ℕ) → next ≡ rest / 10 → Counted number next (count + 1)
+counted-more number rest count so big next is =
+    let step = length-decimal-step rest big (so .small) in
+    record { small = omega (arith, so .small); digits = omega (arith, so .digits, ap (λ k. length (decimal k)) is) }
 
 -- a number of 64 bits has at most twenty digits
 pub counted-small : (number rest count : ℕ) → number < 2 ^ 64 → Counted number rest count → count ≤ 20
@@ -50,25 +52,24 @@ module _ (number : ℕ) (columns : List ℕ) (at rest : ℕ) (so : Put number co
   pub put-before : 10 ≤ rest → 0 < at
   put-before big = omega (arith, so .room, length-decimal-step rest big (so .small), decimal-some (rest / 10) (omega (arith, so .small)))
 
-  pub put-more : 10 ≤ rest → Put number (set columns at (48 + rest % 10)) (at - 1) (rest / 10)
-  put-more big =
-      let d : ℕ = 48 + rest % 10 in
-      let before = put-before big in
-      let back : at - 1 + 1 ≡ at = omega arith in
+  pub put-more : 10 ≤ rest → (digit next left : ℕ) → digit ≡ 48 + rest % 10 → next ≡ rest / 10 → left + 1 ≡ at → Put number (set columns at digit) left next
+  put-more big digit next left last front back =
+      let short : length (decimal next) ≡ length (decimal (rest / 10)) = ap (λ k. length (decimal k)) front in
       record {
         small = omega (arith, so .small);
-        inside = omega (arith, so .inside, length-set columns at d);
+        inside = omega (arith, so .inside, length-set columns at digit);
         room = omega (arith, so .room, length-decimal-step rest big (so .small));
         digits =
-            ap (λ k. decimal (rest / 10) ++ drop k (set columns at d)) back
-            ∙ ap (λ l. decimal (rest / 10) ++ l) (drop-set columns at d (so .inside))
-            ∙ sym (append-assoc (decimal (rest / 10)) (d ∷ []) (drop (at + 1) columns))
+            (λ i. decimal (front i) ++ drop (back i) (set columns at digit))
+            ∙ ap (λ l. decimal (rest / 10) ++ l) (drop-set columns at digit (so .inside))
+            ∙ sym (append-assoc (decimal (rest / 10)) (digit ∷ []) (drop (at + 1) columns))
+            ∙ ap (λ d. (decimal (rest / 10) ++ d ∷ []) ++ drop (at + 1) columns) last
             ∙ ap (λ l. l ++ drop (at + 1) columns) (sym (decimal-step rest big (so .small)))
             ∙ so .digits;
       }
 
-  pub put-all : rest < 10 → drop at (set columns at (48 + rest)) ≡ decimal number
-  put-all last = drop-set columns at (48 + rest) (so .inside) ∙ ap (λ l. l ++ drop (at + 1) columns) (sym (decimal-digit rest last)) ∙ so .digits
+  pub put-all : rest < 10 → (digit : ℕ) → digit ≡ 48 + rest → drop at (set columns at digit) ≡ decimal number
+  put-all small digit is = drop-set columns at digit (so .inside) ∙ ap (λ d. d ∷ drop (at + 1) columns) is ∙ ap (λ l. l ++ drop (at + 1) columns) (sym (decimal-digit rest small)) ∙ so .digits
 
   pub put-place : rest < 10 → at ≡ length columns - length (decimal number)
-  put-place last = omega (arith, so .inside, ap length (put-all last), length-drop at (set columns at (48 + rest)), length-set columns at (48 + rest))
+  put-place small = omega (arith, so .inside, ap length (put-all small (48 + rest) refl), length-drop at (set columns at (48 + rest)), length-set columns at (48 + rest))

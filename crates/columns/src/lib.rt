@@ -63,7 +63,8 @@ fn number(digits: &[u8]) -> Option<u64>
     if digits.is_empty() {
         return None;
     }
-    if digits[0] == ZERO && digits.len() > 1 {
+    let first = digits[0];
+    if first == ZERO && digits.len() > 1 {
         return None;
     }
     value_of(digits)

@@ -16,4 +16,4 @@ returns-then-digits-gt1 c n small is = omega (arith, no-leading-zero (c .args .d
 pub returns : need.returns
 returns c =
     let some : 0 < length (c .args .digits .now) = omega (arith, eqb-false (length (c .args .digits .now)) 0 (sym (c .if-is-empty .ensures tt))) in
-    decimal-by-value (c .value-of .result) (c .args .digits .now) some (λ zero. omega (arith, c .else-digits-eq-ZERO .either)) (c .value-of .ensures)
+    decimal-by-value (c .value-of .result) (c .args .digits .now) some (λ zero. omega (arith, c .else-first-eq-ZERO .either)) (c .value-of .ensures)

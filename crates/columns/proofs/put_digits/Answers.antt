@@ -13,11 +13,13 @@ pub sub-at-in-loop-rest : need.sub-at-in-loop-rest
 sub-at-in-loop-rest c = put-before (c .args .number) (c .loop-rest .columns) (c .loop-rest .at) (c .loop-rest .rest) (c .loop-rest .inv) (omega arith)
 
 pub loop-rest-again : need.loop-rest-again
-loop-rest-again c = put-more (c .args .number) (c .loop-rest .columns) (c .loop-rest .at) (c .loop-rest .rest) (c .loop-rest .inv) (omega arith)
+loop-rest-again c =
+    let before = put-before (c .args .number) (c .loop-rest .columns) (c .loop-rest .at) (c .loop-rest .rest) (c .loop-rest .inv) (omega arith) in
+    put-more (c .args .number) (c .loop-rest .columns) (c .loop-rest .at) (c .loop-rest .rest) (c .loop-rest .inv) (omega arith) _ _ _ (omega arith) (omega arith) (omega arith)
 
 pub returns : need.returns
 returns c =
     record {
       place = omega (arith, c .loop-rest .kept .columns, put-place (c .args .number) (c .loop-rest .columns) (c .loop-rest .at) (c .loop-rest .rest) (c .loop-rest .inv) (omega arith));
-      digits = put-all (c .args .number) (c .loop-rest .columns) (c .loop-rest .at) (c .loop-rest .rest) (c .loop-rest .inv) (omega arith);
+      digits = put-all (c .args .number) (c .loop-rest .columns) (c .loop-rest .at) (c .loop-rest .rest) (c .loop-rest .inv) (omega arith) _ (omega arith);
     }

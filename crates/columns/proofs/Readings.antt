@@ -1,8 +1,8 @@
 -- What is read after the blanks is the decimal of a number just where the whole text spells that number.
-use mathlib.Core.Path.{_≡_, refl, sym, ap, subst, _∙_}
-use mathlib.Core.Logic.{inl, inr, ⊎-elim}
-use mathlib.Core.List.{List, [], _∷_, _++_, append-nil}
-use Prim.Native.Nat.{ℕ, _+_, _-_, _^_, _≤_, _<_}
+use mathlib.Core.Path.{_≡_, sym, ap, subst, _∙_}
+use mathlib.Core.Logic.{⊎-elim}
+use mathlib.Core.List.{List, [], _++_, append-nil}
+use Prim.Native.Nat.{ℕ, _-_, _^_, _≤_, _<_}
 use native.Mathlib.Nat.{add-zero}
 use native.Mathlib.Omega.{arith}
 use lib.ListN.{length, getD, drop, replicate, length-append, length-replicate, length-drop}
@@ -13,7 +13,7 @@ use Rattle.std.specs.Reads.{Digits, value}
 use Rattle.std.specs.Written.{decimal}
 use Rattle.std.specs.declared.option.Option.{Option}
 use Rattle.std.specs.declared.option.Option.the-variants.{Some, None}
-use Rattle.std.proofs.shelf.Decimals.{decimal-reads, decimal-some, decimal-digit, decimal-value, first-decimal}
+use Rattle.std.proofs.shelf.Decimals.{decimal-reads, decimal-digit, decimal-value, first-decimal}
 use Rattle.std.proofs.shelf.Lists.{drop-all}
 use Rattle.std.proofs.shelf.Numerals.{numerals-by-value, tells-digits}
 use Rattle.std.proofs.shelf.Tests.{cases-lt}
@@ -53,7 +53,7 @@ module _ (text : List ℕ) (r : ℕ) (front : text ≡ replicate r 32 ++ drop r 
   pub unreadable-if-neither : (getD text r 0 ≡ 32 → ⊥) → r < length text → (ds : List ℕ) → ((n : ℕ) → n < 2 ^ 64 → ds ≡ decimal n → ⊥) → ds ≡ drop r text → Means text Unreadable
   unreadable-if-neither stops more ds none whole =
       let stop : getD (drop r text) 0 0 ≡ 32 → ⊥ = rw (getD-drop, add-zero) stops in (
-        λ n p. none n (p .0) (whole ∙ after-blanks-same r _ (drop r text) (decimal n) stop (decimal-no-blank n (p .0)) (sym front ∙ p .1)),
+        λ n small is. none n small (whole ∙ after-blanks-same r _ (drop r text) (decimal n) stop (decimal-no-blank n small) (sym front ∙ is)),
         λ b.
             let empty : drop r text ≡ [] = after-blanks-same r (length text) (drop r text) [] stop (λ z. omega arith) (sym front ∙ b ∙ sym (append-nil _)) in
             omega (arith, length-drop r text, ap length empty),

@@ -1,18 +1,17 @@
 -- Spellings in columns: how long they are, what bytes they have, and that no two numbers share one.
-use mathlib.Core.Path.{_≡_, refl, sym, ap, subst, _∙_}
-use mathlib.Core.List.{List, [], _∷_, _++_, append-nil}
-use Prim.Native.Nat.{ℕ, zero, suc, _+_, _-_, _^_, _≤_, _<_}
+use mathlib.Core.Path.{_≡_, refl, sym, ap, _∙_}
+use mathlib.Core.List.{List, [], _++_, append-nil}
+use Prim.Native.Nat.{ℕ, zero, suc, _-_, _^_, _≤_, _<_}
 use native.Mathlib.Omega.{arith}
 use lib.ListN.{length, getD, drop, replicate, length-append, length-replicate}
-use Rattle.std.specs.Reads.{Digits}
 use Rattle.std.specs.Text.{In}
 use Rattle.std.specs.Written.{decimal}
 use Rattle.std.specs.shelf.Lists.{All}
 use Rattle.std.proofs.shelf.Decimals.{decimal-reads, decimal-some, same-from-decimal, length-decimal-le}
-use Rattle.std.proofs.shelf.Numerals.{digit-at, digit-from-value}
+use Rattle.std.proofs.shelf.Numerals.{digit-at}
 use Rattle.std.proofs.shelf.Elements.{all-append, all-from-getD}
 use Rattle.std.proofs.shelf.Lists.{getD-replicate}
-use Rattle.columns.specs.Spelling.{spelled, Blanks, Spells, Means}
+use Rattle.columns.specs.Spelling.{spelled, Means}
 use Rattle.columns.specs.declared.Field.{Field}
 use Rattle.columns.specs.declared.Field.the-variants.{Number, Blank, Unreadable}
 
@@ -53,20 +52,17 @@ spelled-no-newline w n small =
     (all-from-getD (λ b. b ≡ 10 → ⊥) _ 0 (λ i h e. omega (arith, getD-replicate {A = ℕ} (w - length (decimal n)) i 32 0 (simp length-replicate at h))))
     (all-from-getD (λ b. b ≡ 10 → ⊥) _ 0 (λ i h e. omega (arith, digit-decimal n i small h)))
 
-pub one-spelling : (text : List ℕ) (m n : ℕ) → Spells text m → Spells text n → m ≡ n
-one-spelling text m n p q = spelled-injective (length text) m n (p .0) (q .0) (sym (p .1) ∙ q .1)
-
-pub no-blank-spelling : (text : List ℕ) (n : ℕ) → Spells text n → Blanks text → ⊥
-no-blank-spelling text n p b = spelled-not-blank (length text) n (length text) (p .0) (sym (p .1) ∙ b)
+spelled-or-blank : (text : List ℕ) (n : ℕ) → Means text (Number n) → Means text Blank → ⊥
+spelled-or-blank text n p b = spelled-not-blank (length text) n (length text) (p .0) (sym (p .1) ∙ b)
 
 -- a text has one meaning
 pub means-one : (text : List ℕ) (f g : Field) → Means text f → Means text g → f ≡ g
-means-one text (Number m) (Number n) p q = ap Number (one-spelling text m n p q)
-means-one text (Number m) Blank p q = absurd (no-blank-spelling text m p q)
-means-one text (Number m) Unreadable p q = absurd (q .0 m p)
-means-one text Blank (Number n) p q = absurd (no-blank-spelling text n q p)
+means-one text (Number m) (Number n) p q = ap Number (spelled-injective (length text) m n (p .0) (q .0) (sym (p .1) ∙ q .1))
+means-one text (Number m) Blank p q = absurd (spelled-or-blank text m p q)
+means-one text (Number m) Unreadable p q = absurd (q .0 m (p .0) (p .1))
+means-one text Blank (Number n) p q = absurd (spelled-or-blank text n q p)
 means-one text Blank Blank p q = refl
 means-one text Blank Unreadable p q = absurd (q .1 p)
-means-one text Unreadable (Number n) p q = absurd (p .0 n q)
+means-one text Unreadable (Number n) p q = absurd (p .0 n (q .0) (q .1))
 means-one text Unreadable Blank p q = absurd (p .1 q)
 means-one text Unreadable Unreadable p q = refl

@@ -1,5 +1,5 @@
 -- One turn of each loop over the digits of a number, from the last to the first: a count of them, and a writing.
-use mathlib.Core.Path.{_≡_, refl, sym, ap, subst, _∙_}
+use mathlib.Core.Path.{_≡_, refl, sym, ap, _∙_}
 use mathlib.Core.List.{List, [], _∷_, _++_, append-assoc, append-nil}
 use Prim.Native.Nat.{ℕ, _+_, _-_, _/_, _%_, _^_, _≤_, _<_}
 use native.Mathlib.Omega.{arith}
@@ -11,13 +11,10 @@ use Rattle.std.proofs.shelf.Lists.{drop-all, drop-set}
 pub length-decimal-step : (n : ℕ) → 10 ≤ n → n < 2 ^ 64 → length (decimal n) ≡ length (decimal (n / 10)) + 1
 length-decimal-step n big small = ap length (decimal-step n big small) ∙ length-append (decimal (n / 10)) ((48 + n % 10) ∷ [])
 
--- `rest` and one digit for each `count` but the first are all of the number
+-- the digits of `rest` and those counted so far are all of the number's; the count starts with the last one of `rest`
 pub record Counted (number rest count : ℕ) : Type 0 where
   pub small : rest < 2 ^ 64
   pub digits : count + length (decimal rest) ≡ 1 + length (decimal number)
-
-pub counted-none : (n : ℕ) → n < 2 ^ 64 → Counted n n 1
-counted-none n small = record { small = small; digits = refl }
 
 pub counted-more : (number rest count : ℕ) → Counted number rest count → 10 ≤ rest → (next : ℕ) → next ≡ rest / 10 → Counted number next (count + 1)
 counted-more number rest count so big next is =

@@ -11,16 +11,9 @@ use Rattle.columns.specs.declared.Field.the-variants.{Number, Blank, Unreadabl
 abbrev pub spelled : ℕ → ℕ → List ℕ
 spelled width n = replicate (width - length (decimal n)) 32 ++ decimal n
 
--- nothing but blanks
-abbrev pub Blanks : List ℕ → Type 0
-Blanks text = text ≡ replicate (length text) 32
-
--- the text spells n, a number of 64 bits, over all its columns; a longer decimal than the text equals no spelling
-abbrev pub Spells : List ℕ → ℕ → Type 0
-Spells text n = (n < 2 ^ 64) × (text ≡ spelled (length text) n)
-
--- what a reading of the text answers: the number that it spells, that it is blank, or that it is neither
+-- what a reading of the text answers: the number of 64 bits that it spells over all its columns, that it is blank, or that it is neither;
+-- a decimal longer than the text makes a spelling that is longer too, so none of those is equal to it
 abbrev pub Means : List ℕ → Field → Type 0
-Means text (Number n) = Spells text n
-Means text Blank = Blanks text
-Means text Unreadable = ((n : ℕ) → Spells text n → ⊥) × (Blanks text → ⊥)
+Means text (Number n) = (n < 2 ^ 64) × (text ≡ spelled (length text) n)
+Means text Blank = text ≡ replicate (length text) 32
+Means text Unreadable = ((n : ℕ) → n < 2 ^ 64 → text ≡ spelled (length text) n → ⊥) × (text ≡ replicate (length text) 32 → ⊥)

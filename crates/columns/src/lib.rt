@@ -26,7 +26,7 @@ pub enum Field {
 }
 
 impl Field {
-    // The number that the columns spell, its last digit in the last of them.
+    // The number whose decimal ends in the last column, after nothing but blanks.
     pub fn read(text: &[u8]) -> Field
         ensures means { λ r. ⌜ Means (now (text .entry)) r ⌝ }
         ensures only { λ r. ⌜ ((f : Field) → Means (now (text .entry)) f → f ≡ r) ⌝ }
@@ -89,6 +89,7 @@ fn value_of(digits: &[u8]) -> Option<u64>
 pub fn write(number: u64, columns: &mut [u8]) -> bool
     ensures fits { λ r. ⌜ Decides r (length (decimal number) ≤ length (now (columns .entry))) ⌝ }
     ensures spells { λ r. ⌜ (r ≡ true → now (columns .exit) ≡ spelled (length (now (columns .entry))) number) ⌝ }
+    ensures reads { λ r. ⌜ (r ≡ true → Means (now (columns .exit)) (Field.Number number)) ⌝ }
     ensures keeps { λ r. ⌜ (r ≡ false → now (columns .exit) ≡ now (columns .entry)) ⌝ }
 {
     if columns.len() < digit_count(number) {

@@ -1,0 +1,4 @@
+mod Readings
+pub mod Spelled
+mod Turns
+mod Writings

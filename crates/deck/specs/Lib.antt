@@ -1,0 +1,5 @@
+pub mod Faults
+pub mod Outcomes
+pub mod Progress
+pub mod Rows
+pub mod Tests

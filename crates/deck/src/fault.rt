@@ -1,0 +1,37 @@
+// Faults: what was refused, by which layer, and where.
+ghost use mathlib.Core.Path.{_≡_};
+ghost use Rattle.deck.specs.Faults.{layer-letter};
+use netlist::refusal::Refusal;
+use netlist::refusal::RefusalDebug;
+use netlist::refusal::RefusalPartialEq;
+
+// The layer that refused: a number field, a record, the netlist, or the session.
+#[derive(Clone, Copy, PartialEq, Eq, Debug)]
+pub enum Layer {
+    Field,
+    Record,
+    Netlist,
+    Session,
+}
+
+impl Layer {
+    pub fn letter(self) -> u8
+        ensures { λ r. ⌜ r ≡ layer-letter self ⌝ }
+    {
+        match self {
+            Layer::Field => b'F',
+            Layer::Record => b'R',
+            Layer::Netlist => b'N',
+            Layer::Session => b'S',
+        }
+    }
+}
+
+// A refusal with its layer, its record and its column, both counted from 1.
+#[derive(Clone, Copy, Debug)]
+pub struct Fault {
+    pub refusal: Refusal,
+    pub layer: Layer,
+    pub record: usize,
+    pub column: usize,
+}

@@ -1,0 +1,3 @@
+// Decks: a netlist as columns of bytes, read record by record into a draft.
+pub mod entry;
+pub mod fault;

@@ -21,7 +21,7 @@ pub data Row : Type 0 where
   end : Row
 
 abbrev pub row-of : Entry → Row
-row-of (entry.Header i g o) = header i g o
+row-of (entry.Header h) = header (h .inputs) (h .gates) (h .outputs)
 row-of (entry.Input n) = input n
 row-of (entry.Gate n r) = gate n (gate-of r)
 row-of (entry.Output n) = output n

@@ -2,22 +2,20 @@
 use netlist::row::GateRow;
 use netlist::row::GateRowDebug;
 
+// How many inputs, gates and outputs a deck has.
+#[derive(Clone, Copy, Debug)]
+pub struct Header {
+    pub inputs: usize,
+    pub gates: usize,
+    pub outputs: usize,
+}
+
+// A record; inputs, gates and outputs with their lines.
 #[derive(Clone, Copy, Debug)]
 pub enum Entry {
-    Header {
-        inputs: usize,
-        gates: usize,
-        outputs: usize,
-    },
-    Input {
-        line: u32,
-    },
-    Gate {
-        line: u32,
-        row: GateRow,
-    },
-    Output {
-        line: u32,
-    },
+    Header(Header),
+    Input(usize),
+    Gate(usize, GateRow),
+    Output(u32),
     End,
 }

@@ -1,3 +1,4 @@
 // Decks: a netlist as columns of bytes, read record by record into a draft.
 pub mod entry;
 pub mod fault;
+mod record;

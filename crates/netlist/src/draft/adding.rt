@@ -61,8 +61,8 @@ impl Draft {
         Ok(())
     }
 
-    // Gates come in line order, as many as the draft was opened for.
-    fn takes_gate(&self) -> bool
+    // Whether a gate may come next: gates come in line order, as many as the draft was opened for.
+    pub fn takes_gate(&self) -> bool
         ensures { λ r. ⌜ r ≡ takes-gate (sheet (now (self .entry))) ⌝ }
     {
         self.drawn < self.gates
@@ -98,8 +98,8 @@ impl Draft {
         Ok(())
     }
 
-    // Outputs come after all gates.
-    fn takes_output(&self) -> bool
+    // Whether an output may come next: outputs come after all gates.
+    pub fn takes_output(&self) -> bool
         ensures { λ r. ⌜ r ≡ takes-output (sheet (now (self .entry))) ⌝ }
     {
         self.drawn == self.gates && self.named < self.outputs

@@ -1,8 +1,8 @@
 // Opening a draft.
 ghost use mathlib.Core.Path.{_≡_};
-ghost use Prim.Native.Nat.{_≤_};
-ghost use lib.ListN.{replicate};
-ghost use Rattle.netlist.specs.Drafts.{sheet, opened, limits-answer};
+ghost use Prim.Native.Nat.{suc, _+_, _≤_};
+ghost use lib.ListN.{length, replicate};
+ghost use Rattle.netlist.specs.Drafts.{sheet, lines, opened, limits-answer};
 ghost use Rattle.netlist.specs.Refusals.{answer};
 ghost use Rattle.netlist.specs.Rows.{empty};
 use super::Draft;
@@ -63,5 +63,25 @@ impl Draft {
             rows: [GateRow::EMPTY; 768],
             ends: [0; 256],
         }
+    }
+
+    pub fn inputs(&self) -> usize
+        ensures { λ r. ⌜ r ≡ sheet (now (self .entry)) .circuit .inputs ⌝ }
+    {
+        self.inputs
+    }
+
+    // How many lines it has, those of gates still to come too.
+    pub fn lines(&self) -> usize
+        ensures { λ r. ⌜ r ≡ lines (sheet (now (self .entry))) ⌝ }
+    {
+        self.inputs + self.gates
+    }
+
+    // The line that the next gate drives.
+    pub fn next_line(&self) -> usize
+        ensures { λ r. ⌜ r ≡ suc (sheet (now (self .entry)) .circuit .inputs + length (sheet (now (self .entry)) .circuit .gates)) ⌝ }
+    {
+        self.inputs + self.drawn + 1
     }
 }

@@ -1,4 +1,6 @@
 // Decks: a netlist as columns of bytes, read record by record into a draft.
 pub mod entry;
 pub mod fault;
+pub mod phase;
+pub mod reader;
 mod record;

@@ -21,6 +21,9 @@ pub data Follows : Expected → Row → Type 0 where
   an-output : {m n : ℕ} → m < 10 ^ 4 → in-range 1 m n ≡ true → Follows (output-next m) (output n)
   an-end : Follows end-next end
 
+pub nothing-follows : (r : Row) → Follows nothing-next r → ⊥
+nothing-follows r f = elim f [ ]
+
 abbrev drawn-in : Progress → Sheet
 drawn-in blank = dead
 drawn-in (going s told) = s

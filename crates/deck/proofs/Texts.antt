@@ -7,7 +7,7 @@ use native.Mathlib.Omega.{arith}
 use lib.Dec.{eqb}
 use lib.ListN.{length, take, drop, getD, length-append}
 use Rattle.std.specs.Joined.{joined}
-use Rattle.std.specs.shelf.Lists.{All}
+use Rattle.std.specs.shelf.Lists.{All, sum}
 use Rattle.std.proofs.shelf.Lists.{take-at, drop-at, ext-getD}
 use Rattle.std.proofs.shelf.Elements.{all-append}
 use Rattle.std.proofs.shelf.Tests.{and-parts}
@@ -40,14 +40,118 @@ shows-one r c w m n narrow a b = spelled-injective w m n (omega arith) (omega ar
 abbrev pub Fours : List ℕ → Type 0
 Fours ls = All (λ n. n < 10 ^ 4) ls
 
-pub length-joined : (ls : List ℕ) → Fours ls → length (joined (spelled 4) ls) ≡ 4 * length ls
-length-joined [] small = refl
-length-joined (l ∷ ls) small =
-    omega (arith, length-append (spelled 4 l) (joined (spelled 4) ls), length-spelled 4 l (small .0) (omega arith) (omega arith), length-joined ls (small .1))
+-- so many bytes and then the numbers, in four columns each; none of the bytes is byte 10
+pub record Fields (t : List ℕ) (front : ℕ) (ls : List ℕ) : Type 0 where
+  pub long : length t ≡ front + 4 * length ls
+  pub each : (j : ℕ) → j < length ls → Shows t (suc front + 4 * j) 4 (getD ls j 0)
+  pub unended : Unended t
 
-pub shown-among : (front ls : List ℕ) (c j : ℕ) → Fours ls → length front + 4 * j ≡ c - 1 → j < length ls → Shows (front ++ joined (spelled 4) ls) c 4 (getD ls j 0)
-shown-among front [] c j small before within = absurd (omega arith)
-shown-among front (l ∷ ls) c zero small before within = shown front _ c 4 l (omega arith) (omega arith) (small .0)
-shown-among front (l ∷ ls) c (suc j) small before within =
-    rw (← append-assoc front (spelled 4 l) (joined (spelled 4) ls))
-    (shown-among (front ++ spelled 4 l) ls c j (small .1) (omega (arith, length-append front (spelled 4 l), length-spelled 4 l (small .0) (omega arith) (omega arith))) (omega arith))
+fields-shown : (t front ls : List ℕ) (wide : ℕ) → length front ≡ wide → Unended front → Fours ls → t ≡ front ++ joined (spelled 4) ls → Fields t wide ls
+fields-shown t front [] wide before clean small is = rw (is, append-nil front) (record { long = omega arith; each = λ j within. absurd (omega arith); unended = clean })
+fields-shown t front (l ∷ ls) wide before clean small is =
+    let four = length-spelled 4 l (small .0) (omega arith) (omega arith) in
+    let on = fields-shown t (front ++ spelled 4 l) ls (wide + 4) (omega (arith, length-append front (spelled 4 l))) (all-append _ front (spelled 4 l) clean (spelled-no-newline 4 l (omega arith))) (small .1) (is ∙ sym (append-assoc front (spelled 4 l) (joined (spelled 4) ls))) in
+    let there : (j : ℕ) → j < length ls → Shows t (suc wide + 4 * suc j) 4 (getD ls j 0) = λ j within.
+        let column : suc (wide + 4) + 4 * j ≡ suc wide + 4 * suc j = omega arith in
+        rw column at (on .each j within) in
+    record {
+      long = omega arith;
+      each = elim [ zero ↦ λ within. rw is (shown front (joined (spelled 4) ls) _ 4 l (omega arith) (omega arith) (small .0)) | suc j ↦ λ within. there j (omega arith) ];
+      unended = on .unended;
+    }
+
+fields-one : (t : List ℕ) (front : ℕ) (ls ms : List ℕ) → Fields t front ls → Fields t front ms → ls ≡ ms
+fields-one t front ls ms a b =
+    let same : length ls ≡ length ms = omega arith in
+    ext-getD 0 ls ms same (λ j within. shows-one t _ 4 _ _ (omega arith) (a .each j within) (b .each j (omega arith)))
+
+-- the bytes of each kind's text have a sum of their own
+abbrev kind-of-sum : ℕ → Kind
+kind-of-sum n =
+    cond (eqb n 253) Buf (cond (eqb n 273) Not (cond (eqb n 243) And (cond (eqb n 225) Or (cond (eqb n 281) Xor (cond (eqb n 289) Nand (cond (eqb n 271) Nor Xnor))))))
+
+-- four bytes, none of them byte 10, of which the kind can be told
+kind-facts : (k : Kind) → (length (kind-text k) ≡ 4) × Unended (kind-text k) × (kind-of-sum (sum (kind-text k)) ≡ k)
+kind-facts Buf = (refl, omega arith, refl)
+kind-facts Not = (refl, omega arith, refl)
+kind-facts And = (refl, omega arith, refl)
+kind-facts Or = (refl, omega arith, refl)
+kind-facts Xor = (refl, omega arith, refl)
+kind-facts Nand = (refl, omega arith, refl)
+kind-facts Nor = (refl, omega arith, refl)
+kind-facts Xnor = (refl, omega arith, refl)
+
+kind-one : (k l : Kind) → kind-text k ≡ kind-text l → k ≡ l
+kind-one k l e = sym (kind-facts k .2) ∙ ap (λ t. kind-of-sum (sum t)) e ∙ kind-facts l .2
+
+fours-on-lines : (m : ℕ) (ls : List ℕ) → m < 10 ^ 4 → on-lines m ls ≡ true → Fours ls
+fours-on-lines m [] small fine = tt
+fours-on-lines m (l ∷ ls) small fine =
+    let parts = and-parts (in-range 1 m l) (on-lines m ls) fine in
+    (omega (arith, bounds 1 m l (parts .0)), fours-on-lines m ls small (parts .1))
+
+-- what a legal gate of a netlist with so many lines has
+pub record Gated (m : ℕ) (g : Gate) : Type 0 where
+  pub delayed : (1 ≤ g .delay) × (g .delay ≤ 65535)
+  pub on : on-lines m (g .reads) ≡ true
+  pub fours : Fours (g .reads)
+  pub fitting : fits (g .kind) (length (g .reads)) ≡ true
+
+pub gated : (m : ℕ) (g : Gate) → m < 10 ^ 4 → legal m g ≡ true → Gated m g
+gated m g small fine =
+    let last = and-parts (delay-fits (g .delay) && on-lines m (g .reads)) _ fine in
+    let front = and-parts (delay-fits (g .delay)) _ (last .0) in
+    record { delayed = bounds 1 65535 (g .delay) (front .0); on = front .1; fours = fours-on-lines m (g .reads) small (front .1); fitting = last .1 }
+
+-- the bytes show the fields of the row
+abbrev pub Says : List ℕ → Row → Type 0
+Says t (header i g o) = Fields t 1 (i ∷ g ∷ o ∷ [])
+Says t (input n) = Fields t 1 (n ∷ [])
+Says t (gate n g) = Fields t 14 (g .reads) × Shows t 2 4 n × (columns t 6 4 ≡ kind-text (g .kind)) × Shows t 10 5 (g .delay)
+Says t (output n) = Fields t 1 (n ∷ [])
+Says t end = Fields t 1 []
+
+pub says-unended : (t : List ℕ) (r : Row) → Says t r → Unended t
+says-unended t (header i g o) a = a .unended
+says-unended t (input n) a = a .unended
+says-unended t (gate n g) a = a .0 .unended
+says-unended t (output n) a = a .unended
+says-unended t end a = a .unended
+
+gate-one : (t : List ℕ) (n : ℕ) (g h : Gate) → Says t (gate n g) → Says t (gate n h) → g ≡ h
+gate-one t n g h a b =
+    let lines = fields-one t 14 (g .reads) (h .reads) (a .0) (b .0) in
+    let kinds = kind-one (g .kind) (h .kind) (sym (a .2) ∙ b .2) in
+    let delays = shows-one t 10 5 (g .delay) (h .delay) (omega arith) (a .3) (b .3) in
+    λ x. record { kind = kinds x; delay = delays x; reads = lines x }
+
+-- of the rows that may follow, the bytes show one
+pub says-one : (t : List ℕ) (e : Expected) (r q : Row) → Follows e r → Follows e q → Says t r → Says t q → r ≡ q
+says-one t _ _ _ (a-header l) (a-header m) a b = let same = fields-one t 1 _ _ a b in cc
+says-one t _ _ _ (an-input l) (an-input m) a b = refl
+says-one t _ _ _ (a-gate {n} {g} k l m) (a-gate {g = h} k′ l′ m′) a b = ap (gate n) (gate-one t n g h a b)
+says-one t _ _ _ (an-output l m) (an-output l′ m′) a b = let same = fields-one t 1 _ _ a b in cc
+says-one t _ _ _ an-end an-end a b = refl
+
+-- a letter and then numbers
+fours-said : (t : List ℕ) (byte : ℕ) (ls : List ℕ) → (byte ≡ 10 → ⊥) → Fours ls → t ≡ byte ∷ joined (spelled 4) ls → Fields t 1 ls
+fours-said t byte ls other small is = fields-shown t (byte ∷ []) ls 1 refl (other, tt) small is
+
+pub says-text : (e : Expected) (r : Row) → Follows e r → Says (text r) r
+says-text _ _ (a-header {i} {g} {o} l) =
+    let limits = limited i g o l in
+    fours-said _ 78 (i ∷ g ∷ o ∷ []) (omega arith) (omega arith) (rw append-nil)
+says-text _ _ (an-input {n} l) = fours-said _ 73 (n ∷ []) (omega arith) (omega arith) (rw append-nil)
+says-text _ _ (a-gate {n} {m} {g} k l fine) =
+    let parts = gated m g l fine in
+    let kind = kind-text (g .kind) in
+    let kinds = kind-facts (g .kind) in
+    let delay = spelled 5 (g .delay) in
+    let four = length-spelled 4 n k (omega arith) (omega arith) in
+    let five = length-spelled 5 (g .delay) (omega arith) (omega arith) (omega arith) in
+    (fields-shown _ (71 ∷ (spelled 4 n ++ (kind ++ delay))) (g .reads) 14 (omega (arith, length-append (spelled 4 n) (kind ++ delay), length-append kind delay)) (omega arith, all-append _ (spelled 4 n) _ (spelled-no-newline 4 n (omega arith)) (all-append _ kind delay (kinds .1) (spelled-no-newline 5 (g .delay) (omega arith)))) (parts .fours) (simp append-assoc),
+     shown (71 ∷ []) _ 2 4 n refl (omega arith) k,
+     columns-at (71 ∷ spelled 4 n) kind _ 6 4 (omega arith) (kinds .0),
+     subst (λ t. Shows (71 ∷ t) 10 5 (g .delay)) (append-assoc (spelled 4 n) kind _) (shown (71 ∷ (spelled 4 n ++ kind)) _ 10 5 (g .delay) (omega (arith, length-append (spelled 4 n) kind)) (omega arith) (omega arith)))
+says-text _ _ (an-output {m} {n} l fine) = fours-said _ 79 (n ∷ []) (omega arith) (omega (arith, bounds 1 m n fine)) (rw append-nil)
+says-text _ _ an-end = fours-said _ 69 [] (omega arith) tt refl

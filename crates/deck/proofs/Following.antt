@@ -1,5 +1,5 @@
 -- Which rows may follow one another, and that the rows of a draft do.
-use mathlib.Core.Path.{_≡_, refl, sym, ap, subst, _∙_}
+use mathlib.Core.Path.{_≡_, refl, sym, subst}
 use mathlib.Core.Bool.{true, _&&_}
 use mathlib.Core.List.{List, [], _∷_, _++_, append-assoc, append-nil}
 use Prim.Native.Nat.{ℕ, zero, suc, _+_, _^_, _<_, _≤_}
@@ -7,11 +7,11 @@ use native.Mathlib.Omega.{arith}
 use lib.Dec.{ltb, eqb}
 use lib.ListN.{length, length-append}
 use Rattle.std.proofs.shelf.Tests.{lt-ltb, le-ltb, eqb-true, eq-eqb, and-parts}
-use Rattle.netlist.specs.Drafts.{Sheet, within-limits, lines, takes-gate, takes-output, complete, with-gate, with-output, dead}
+use Rattle.netlist.specs.Drafts.{Sheet, within-limits, with-gate, with-output, dead}
 use Rattle.netlist.specs.Gates.{Gate, every, legal, on-lines, in-range}
 use Rattle.netlist.proofs.Ranges.{bounds}
 use Rattle.deck.specs.Rows.{Row, header, input, gate, output, end, input-rows, gate-rows, output-rows}
-use Rattle.deck.specs.Progress.{Progress, blank, going, over, rows, Begun, Whole, Legal, Expected, header-next, input-next, gate-next, output-next, end-next, nothing-next, expected}
+use Rattle.deck.specs.Progress.{Progress, blank, going, over, rows, Begun, Legal, Expected, header-next, input-next, gate-next, output-next, end-next, nothing-next, expected}
 
 -- a row that is what is expected, with numbers that fit their columns
 pub data Follows : Expected → Row → Type 0 where
@@ -24,6 +24,7 @@ pub data Follows : Expected → Row → Type 0 where
 pub nothing-follows : (r : Row) → Follows nothing-next r → ⊥
 nothing-follows r f = elim f [ ]
 
+-- the draft so far, and how many of its inputs are told
 abbrev drawn-in : Progress → Sheet
 drawn-in blank = dead
 drawn-in (going s told) = s
@@ -34,6 +35,7 @@ told-in blank = 0
 told-in (going s told) = told
 told-in (over s) = s .circuit .inputs
 
+-- i inputs, g gates and o outputs are to come; so many inputs are told, and these gates and outputs
 abbrev pub draft : ℕ → ℕ → ℕ → ℕ → List Gate → List ℕ → Progress
 draft i g o told gs ns = going (record { gates = g; outputs = o; circuit = record { inputs = i; gates = gs; outputs = ns } }) told
 
@@ -82,9 +84,10 @@ module _ (i g o : ℕ) (limits : Limited i g o) where
   gates-lead told n gs (a ∷ hs) place first few fine =
       let parts = and-parts (legal (i + g) a) _ fine in
       let start : told ≡ i = first (omega arith) in
-      let longer = length-append gs (a ∷ []) in
-      (gate-follows told n gs a (omega arith) place (omega arith) (parts .0),
-       rw (← append-assoc gs (a ∷ []) hs) (gates-lead told (suc n) (gs ++ (a ∷ [])) hs (omega arith) (λ z. start) (omega arith) (parts .1)))
+      let longer = length-append gs (a ∷ []) in (
+        gate-follows told n gs a (omega arith) place (omega arith) (parts .0),
+        rw (← append-assoc gs (a ∷ []) hs) (gates-lead told (suc n) (gs ++ (a ∷ [])) hs (omega arith) (λ z. start) (omega arith) (parts .1)),
+      )
 
   output-follows : (told : ℕ) (gs : List Gate) (ns : List ℕ) (n : ℕ) → i ≤ told → length gs ≡ g → length ns < o → in-range 1 (i + g) n ≡ true → Follows (expected (draft i g o told gs ns)) (output n)
   output-follows told gs ns n first all few fine =
@@ -95,21 +98,23 @@ module _ (i g o : ℕ) (limits : Limited i g o) where
   outputs-lead told gs ns (m ∷ ms) before few fine =
       let parts = and-parts (in-range 1 (i + g) m) _ fine in
       let start : (i ≤ told) × (length gs ≡ g) = before (omega arith) in
-      let longer = length-append ns (m ∷ []) in
-      (output-follows told gs ns m (start .0) (start .1) (omega arith) (parts .0),
-       rw (← append-assoc ns (m ∷ []) ms) (outputs-lead told gs (ns ++ (m ∷ [])) ms (λ z. start) (omega arith) (parts .1)))
+      let longer = length-append ns (m ∷ []) in (
+        output-follows told gs ns m (start .0) (start .1) (omega arith) (parts .0),
+        rw (← append-assoc ns (m ∷ []) ms) (outputs-lead told gs (ns ++ (m ∷ [])) ms (λ z. start) (omega arith) (parts .1)),
+      )
 
   end-follows : (gs : List Gate) (ns : List ℕ) → length gs ≡ g → length ns ≡ o → Follows (expected (draft i g o i gs ns)) end
   end-follows gs ns all every =
       rw (le-ltb i i (omega arith), le-ltb (length gs) g (omega arith), eq-eqb (length gs) g all, le-ltb (length ns) o (omega arith)) an-end
 
   begun-leads : (told : ℕ) (gs : List Gate) (ns : List ℕ) → Begun (record { gates = g; outputs = o; circuit = record { inputs = i; gates = gs; outputs = ns } }) told → Leads blank (rows (draft i g o told gs ns)) (draft i g o told gs ns)
-  begun-leads told gs ns b =
-      (a-header (b .limits),
-       leads-append _ (draft i g o told [] []) _ (input-rows told) _ (inputs-lead told (b .inputs-few))
-       (leads-append _ (draft i g o told gs []) _ (gate-rows (suc i) gs) _
+  begun-leads told gs ns b = (
+    a-header (b .limits),
+    leads-append _ (draft i g o told [] []) _ (input-rows told) _ (inputs-lead told (b .inputs-few))
+        (leads-append _ (draft i g o told gs []) _ (gate-rows (suc i) gs) _
         (gates-lead told (suc i) [] gs (omega arith) (b .inputs-first) (omega arith) (b .gates-legal))
-        (outputs-lead told gs [] ns (omega arith) (omega arith) (b .outputs-on-lines))))
+        (outputs-lead told gs [] ns (omega arith) (omega arith) (b .outputs-on-lines))),
+  )
 
 -- the rows of what a deck may have come to follow one another, and lead to it
 pub legal-leads : (p : Progress) → Legal p → Leads blank (rows p) p

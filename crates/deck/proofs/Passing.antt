@@ -1,24 +1,24 @@
 -- The text of a row that follows passes every test, and of a record that fails there is one first test.
-use mathlib.Core.Path.{_≡_, refl, sym, ap, subst, _∙_}
+use mathlib.Core.Path.{_≡_, refl, sym, ap, _∙_}
 use mathlib.Core.Bool.{true}
-use mathlib.Core.List.{List, [], _∷_, _++_}
-use mathlib.Core.Logic.{_⊎_, inl, inr}
-use Prim.Native.Nat.{ℕ, zero, suc, _+_, _*_, _^_, _<_, _≤_}
+use mathlib.Core.List.{List, [], _∷_}
+use mathlib.Core.Logic.{inl, inr}
+use Prim.Native.Nat.{ℕ, zero, suc, _+_, _*_, _≤_}
 use native.Mathlib.Omega.{arith}
 use lib.ListN.{length, getD}
 use Rattle.std.specs.shelf.Lists.{All}
-use Rattle.std.proofs.shelf.Elements.{all-append, all-push}
+use Rattle.std.proofs.shelf.Elements.{all-append}
 use Rattle.std.proofs.shelf.Tests.{eqb-true}
 use Rattle.netlist.specs.declared.kind.Kind.{Kind}
 use Rattle.netlist.specs.declared.kind.Kind.the-variants.{Buf, Not, And, Or, Xor, Nand, Nor, Xnor}
 use Rattle.netlist.specs.Gates.{Gate, fits, in-range, on-lines}
 use Rattle.netlist.proofs.Ranges.{bounds}
 use Rattle.netlist.proofs.Tables.{every-at}
-use Rattle.deck.specs.Progress.{Expected, header-next, input-next, gate-next, output-next, end-next}
-use Rattle.deck.specs.Rows.{Row, header, input, gate, output, end, text}
+use Rattle.deck.specs.Progress.{Expected, gate-next}
+use Rattle.deck.specs.Rows.{Row, gate, text}
 use Rattle.deck.specs.Tests.{Test, figure, turn, range, kind-takes, Shows, Passes, FirstFailed, tests, number-tests, reads-tests, reads-count, has}
 use Rattle.deck.proofs.Following.{Follows, a-header, an-input, a-gate, an-output, an-end, limited}
-use Rattle.deck.proofs.Texts.{Fields, Says, Gated, gated}
+use Rattle.deck.proofs.Texts.{Fields, Says, says-text, Gated, gated}
 
 pub none-failed : (r : List ℕ) (ts : List Test) (t : Test) → All (Passes r) ts → FirstFailed r ts t → ⊥
 none-failed r [] t all first = first
@@ -69,25 +69,35 @@ gate-passes n m g parts a =
     let long = a .0 .long in
     let few = count-fits (g .kind) _ (parts .fitting) in
     let k = reads-count (length t) in
-    let count : k ≡ length (g .reads) = omega arith in
-    ((_, refl),
-     (ap (λ n. has n (18 ∷ 22 ∷ 26 ∷ 30 ∷ [])) long ∙ gate-long _ (few .0) (few .1),
-      line-passes t 2 4 n (a .1)
-      ((g .kind, a .2),
-       number-passes t 10 5 1 65535 (g .delay) (a .3) (parts .delayed)
-       (all-append (Passes t) (reads-tests m k) (kind-takes k ∷ [])
-        (reads-pass t m (g .reads) (a .0) (parts .on) k (omega arith)) ((g .kind, a .2, ap (fits (g .kind)) count ∙ parts .fitting), tt)))))
+    let count : k ≡ length (g .reads) = omega arith in (
+      (_, refl),
+      (
+        ap (λ n. has n (18 ∷ 22 ∷ 26 ∷ 30 ∷ [])) long ∙ gate-long _ (few .0) (few .1),
+        line-passes t 2 4 n (a .1) (
+          (g .kind, a .2),
+          number-passes t 10 5 1 65535 (g .delay) (a .3) (parts .delayed)
+              (all-append (Passes t) (reads-tests m k) (kind-takes k ∷ [])
+              (reads-pass t m (g .reads) (a .0) (parts .on) k (omega arith)) ((g .kind, a .2, ap (fits (g .kind)) count ∙ parts .fitting), tt)),
+        ),
+      ),
+    )
 
-pub follows-passes : (e : Expected) (r : Row) → Follows e r → Says (text r) r → All (Passes (text r)) (tests e (length (text r)))
-follows-passes _ _ (a-header {i} {g} {o} l) a =
-    let limits = limited i g o l in
-    ((_, refl),
-     (ap (λ n. has n (13 ∷ [])) (a .long),
-      number-passes _ 2 4 1 256 i (a .each 0 (omega arith)) (limits .inputs)
-      (number-passes _ 6 4 1 768 g (a .each 1 (omega arith)) (limits .gates)
-       (number-passes _ 10 4 1 256 o (a .each 2 (omega arith)) (limits .outputs) tt))))
-follows-passes _ _ (an-input {n} l) a = ((_, refl), (ap (λ n. has n (5 ∷ [])) (a .long), line-passes _ 2 4 n (a .each 0 (omega arith)) tt))
-follows-passes _ _ (a-gate {n} {m} {g} k l fine) a = gate-passes n m g (gated m g l fine) a
-follows-passes _ _ (an-output {m} {n} l fine) a =
+said-passes : (e : Expected) (r : Row) → Follows e r → Says (text r) r → All (Passes (text r)) (tests e (length (text r)))
+said-passes _ _ (a-header {i} {g} {o} l) a =
+    let limits = limited i g o l in (
+      (_, refl),
+      (
+        ap (λ n. has n (13 ∷ [])) (a .long),
+        number-passes _ 2 4 1 256 i (a .each 0 (omega arith)) (limits .inputs)
+            (number-passes _ 6 4 1 768 g (a .each 1 (omega arith)) (limits .gates)
+            (number-passes _ 10 4 1 256 o (a .each 2 (omega arith)) (limits .outputs) tt)),
+      ),
+    )
+said-passes _ _ (an-input {n} l) a = ((_, refl), (ap (λ n. has n (5 ∷ [])) (a .long), line-passes _ 2 4 n (a .each 0 (omega arith)) tt))
+said-passes _ _ (a-gate {n} {m} {g} k l fine) a = gate-passes n m g (gated m g l fine) a
+said-passes _ _ (an-output {m} {n} l fine) a =
     ((_, refl), (ap (λ n. has n (5 ∷ [])) (a .long), number-passes _ 2 4 1 m n (a .each 0 (omega arith)) (bounds 1 m n fine) tt))
-follows-passes _ _ an-end a = ((_, refl), (refl, tt))
+said-passes _ _ an-end a = ((_, refl), (refl, tt))
+
+pub follows-passes : (e : Expected) (r : Row) → Follows e r → All (Passes (text r)) (tests e (length (text r)))
+follows-passes e r f = said-passes e r f (says-text e r f)

@@ -13,7 +13,7 @@ columns-of-fields letter fields column width past =
     let start : column - 1 ≡ suc (column - 2) = omega arith in
     ap (λ w. take w (drop (column - 2) fields)) wide ∙ ap (λ k. take width (drop k (letter ∷ fields))) (sym start)
 
-pub columns-at : (letter : ℕ) (fields : List ℕ) (column width k : ℕ) → column ≡ suc (suc k) → columns (letter ∷ fields) column width ≡ take width (drop k fields)
-columns-at letter fields column width k e =
+pub columns-past-letter : (letter : ℕ) (fields : List ℕ) (column width k : ℕ) → column ≡ suc (suc k) → columns (letter ∷ fields) column width ≡ take width (drop k fields)
+columns-past-letter letter fields column width k e =
     let start : column - 1 ≡ suc k = omega arith in
     ap (λ j. take width (drop j (letter ∷ fields))) start

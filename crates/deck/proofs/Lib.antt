@@ -2,5 +2,9 @@ pub mod Columns
 pub mod Cutting
 pub mod Exits
 pub mod Failing
-pub mod KindTexts
+pub mod Following
 pub mod Numbers
+pub mod Passing
+pub mod Records
+pub mod Texts
+pub mod Unique

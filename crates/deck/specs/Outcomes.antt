@@ -8,7 +8,7 @@ use Rattle.std.specs.declared.result.Result.{Result}
 use Rattle.std.specs.declared.result.Result.the-variants.{Ok, Err}
 use Rattle.netlist.specs.Drafts.{Sheet, dead}
 use Rattle.deck.specs.Faults.{Told, told}
-use Rattle.deck.specs.Progress.{Progress, rows, Legal, expected, Whole, deck-text}
+use Rattle.deck.specs.Progress.{Progress, over, rows, Legal, expected, Whole, deck-text}
 use Rattle.deck.specs.Rows.{spell}
 use Rattle.deck.specs.Tests.{Test, tests, FirstFailed, fault-of}
 use Rattle.deck.specs.declared.fault.Fault.{Fault}
@@ -22,10 +22,11 @@ pub data Fails (p : Progress) (at : ℕ) (bytes : List ℕ) (f : Told) : Type 0 
   cut : Unended bytes → f ≡ record { number = 1; layer = 82; at = at; column = 1 } → Fails p at bytes f
   failed : (r after : List ℕ) (t : Test) → bytes ≡ r ++ (10 ∷ after) → Unended r → FirstFailed r (tests (expected p) (length r)) t → f ≡ fault-of at t → Fails p at bytes f
 
--- all records before that of the fault are as they should be, and that one fails
+-- all records before that of the fault are as they should be, and that one fails; a fault is found before the end row
 pub record FirstFault (bytes : List ℕ) (f : Told) : Type 0 where
   pub before : Progress
   pub legal : Legal before
+  pub unfinished : (s : Sheet) → before ≡ over s → ⊥
   pub rest : List ℕ
   pub spelled-before : bytes ≡ spell (rows before) ++ rest
   pub fails : Fails before (suc (length (rows before))) rest f

@@ -5,8 +5,8 @@ ghost use lib.ListN.{length};
 ghost use Rattle.netlist.specs.Drafts.{sheet};
 ghost use Rattle.deck.specs.Phases.{agrees, progress};
 ghost use Rattle.deck.specs.Progress.{rows};
-use netlist::draft::Draft;
 use crate::phase::Phase;
+use netlist::draft::Draft;
 
 pub mod taking;
 

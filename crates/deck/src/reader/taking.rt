@@ -6,12 +6,12 @@ ghost use Rattle.std.specs.Results.{Cases};
 ghost use Rattle.deck.specs.Progress.{blank, rows, expected};
 ghost use Rattle.deck.specs.Readers.{progress-of, Took};
 ghost use Rattle.deck.specs.Records.{whole, Failed, fields-tests};
-use netlist::draft::Draft;
 use super::DeckReader;
 use crate::entry::Entry;
 use crate::fault::Fault;
 use crate::phase::Phase;
 use crate::record::Record;
+use netlist::draft::Draft;
 
 impl DeckReader {
     pub fn new() -> DeckReader
@@ -25,12 +25,12 @@ impl DeckReader {
         }
     }
 
-    fn header(&mut self, record: &Record) -> Result<Entry, Fault>
+    fn header(&mut self, source: &Record) -> Result<Entry, Fault>
         requires phase { ⌜ now self .phase ≡ Phase.Header ⌝ }
-        requires letter { ⌜ now record .letter ≡ 78 ⌝ }
-        ensures { λ r. ⌜ Cases r (λ e. Took (now (self .entry)) (now (self .exit)) (whole (now (record .entry))) e) (λ f. Failed (whole (now (record .entry))) (now (record .entry) .number) (fields-tests (expected (progress-of (now (self .entry)))) (length (whole (now (record .entry))))) f × (now (self .exit) ≡ now (self .entry))) ⌝ }
+        requires letter { ⌜ now source .letter ≡ 78 ⌝ }
+        ensures { λ r. ⌜ Cases r (λ e. Took (now (self .entry)) (now (self .exit)) (whole (now (source .entry))) e) (λ f. Failed (whole (now (source .entry))) (now (source .entry) .number) (fields-tests (expected (progress-of (now (self .entry)))) (length (whole (now (source .entry))))) f × (now (self .exit) ≡ now (self .entry))) ⌝ }
     {
-        let header = record.header()?;
+        let header = source.header()?;
         self.draft = Draft::new(header.inputs, header.gates, header.outputs);
         self.phase = Phase::Inputs;
         self.told = 0;

@@ -17,11 +17,11 @@ use Rattle.deck.specs.Records.{whole, Failed, fields-tests}
 use Rattle.deck.specs.Rows.{kind-text}
 use Rattle.deck.specs.Tests.{Test, Passes, Shows, columns, long, kind-known, kind-takes, number-tests, line-tests, reads-tests, reads-count}
 use Rattle.deck.specs.declared.fault.Fault.{Fault}
-use Rattle.deck.proofs.Columns.{columns-at}
+use Rattle.deck.proofs.Columns.{columns-past-letter}
 use Rattle.deck.proofs.Cutting.{cut, cut-joined, gate-lengths, on-lines-of}
 use Rattle.deck.proofs.Exits.{carried}
 use Rattle.deck.proofs.Failing.{failed-one, failed-after, failed-left, failed-right, number-pass, line-pass, reads-pass}
-use Rattle.deck.proofs.KindTexts.{kind-text-injective}
+use Rattle.deck.proofs.Texts.{kind-one}
 use Rattle.deck.proofs.record.Record.gate.Needs as need
 
 -- as many lines as the code counts
@@ -76,7 +76,7 @@ returns-in-Break-reads c =
 -- a kind that does not take so many lines is no kind that does
 takes-none : (r : List ℕ) (k : Kind) (count : ℕ) → columns r 6 4 ≡ kind-text k → false ≡ fits k count → Passes r (kind-takes count) → ⊥
 takes-none r k count shown out (j, other, takes) =
-    false≢true (out ∙ ap (λ x. fits x count) (kind-text-injective k j (sym shown ∙ other)) ∙ takes)
+    false≢true (out ∙ ap (λ x. fits x count) (kind-one k j (sym shown ∙ other)) ∙ takes)
 
 pub returns-then-not-takes : need.returns-then-not-takes
 returns-then-not-takes c =
@@ -99,7 +99,7 @@ returns c =
     let first : fields ≡ spelled 4 (c .args .line) ++ drop 4 fields = cut fields _ 0 4 (c .in-Continue-turn .ensures tt .spelling) in
     let second = cut fields _ 4 4 (c .in-Continue-kind .ensures tt) in
     let third = cut fields _ 8 5 (delay .0 .spelling) in
-    let fourth = cut-joined fields ns 13 count few (λ i below. sym (columns-at (r .letter) fields (15 + 4 * i) 4 (13 + 4 * i) (omega arith)) ∙ reads .1 i below .0 .spelling) in
+    let fourth = cut-joined fields ns 13 count few (λ i below. sym (columns-past-letter (r .letter) fields (15 + 4 * i) 4 (13 + 4 * i) (omega arith)) ∙ reads .1 i below .0 .spelling) in
     let last : drop 13 fields ≡ joined (spelled 4) (take count ns) = fourth ∙ ap (λ l. joined (spelled 4) (take count ns) ++ l) (drop-all (13 + 4 * count) fields (omega arith)) ∙ append-nil _ in (
       first ∙ ap (λ l. spelled 4 (c .args .line) ++ l) (second ∙ ap (λ l. kind-text (c .in-Continue-kind .kind) ++ l) (third ∙ ap (λ l. spelled 5 (c .in-Continue-delay .delay) ++ l) last)),
       and-from _ _ (and-from _ _ (inside 1 65535 _ (delay .1) (delay .2)) (on-lines-of (c .args .lines) ns count few (λ i below. inside 1 _ _ (reads .1 i below .1) (reads .1 i below .2)))) (ap (fits (c .in-Continue-kind .kind)) (length-take-le count ns few) ∙ sym (c .if-not-takes .ensures tt)),

@@ -5,6 +5,9 @@ pub mod Failing
 pub mod Following
 pub mod Numbers
 pub mod Passing
+pub mod Phasing
+pub mod Readers
 pub mod Records
+pub mod Taking
 pub mod Texts
 pub mod Unique

@@ -1,14 +1,14 @@
 -- No refusal has the number 0, so an answer of 0 says that nothing was refused.
-use mathlib.Core.Path.{_≡_, refl}
-use mathlib.Core.Bool.{Bool, true, false, cond}
+use mathlib.Core.Path.{_≡_, refl, _∙_}
+use mathlib.Core.Bool.{Bool, true, false, cond, _&&_}
 use Prim.Native.Nat.{ℕ, _<_}
 use lib.Dec.{lit<}
 use lib.ListN.{length}
 use native.Mathlib.Omega.{arith}
-use Rattle.std.proofs.shelf.Tests.{and-from}
+use Rattle.std.proofs.shelf.Tests.{and-from, and-parts, cond-true}
 use Rattle.netlist.specs.declared.refusal.Refusal.{Refusal}
-use Rattle.netlist.specs.Drafts.{Sheet, gate-answer, takes-gate, lines}
-use Rattle.netlist.specs.Gates.{Gate, legal, fits, delay-fits, on-lines}
+use Rattle.netlist.specs.Drafts.{Sheet, gate-answer, output-answer, takes-gate, takes-output, lines}
+use Rattle.netlist.specs.Gates.{Gate, legal, fits, delay-fits, in-range, on-lines}
 use Rattle.netlist.specs.Refusals.{number}
 
 pub number-some : (r : Refusal) → 0 < number r
@@ -49,3 +49,13 @@ gate-accepted s g e =
     let reads = passed (on-lines (lines s) (g .reads)) _ 5 (lit< tt) (delay .1) in
     let count = passed (fits (g .kind) (length (g .reads))) 0 7 (lit< tt) (reads .1) in
     (next .0, and-from _ _ (and-from _ _ (delay .0) (reads .0)) (count .0))
+
+-- a legal gate that is next is not refused, nor is an output on a line that is next
+pub gate-taken : (s : Sheet) (g : Gate) → takes-gate s ≡ true → legal (lines s) g ≡ true → gate-answer s g ≡ 0
+gate-taken s g next fine =
+    let last = and-parts (delay-fits (g .delay) && on-lines (lines s) (g .reads)) (fits (g .kind) (length (g .reads))) fine in
+    let front = and-parts (delay-fits (g .delay)) (on-lines (lines s) (g .reads)) (last .0) in
+    cond-true (takes-gate s) _ 2 next ∙ cond-true (delay-fits (g .delay)) _ 5 (front .0) ∙ cond-true (on-lines (lines s) (g .reads)) _ 5 (front .1) ∙ cond-true (fits (g .kind) (length (g .reads))) 0 7 (last .1)
+
+pub output-taken : (s : Sheet) (n : ℕ) → takes-output s ≡ true → in-range 1 (lines s) n ≡ true → output-answer s n ≡ 0
+output-taken s n next fine = cond-true (takes-output s) _ 2 next ∙ cond-true (in-range 1 (lines s) n) 0 5 fine

@@ -25,6 +25,7 @@ impl DeckReader {
         }
     }
 
+    // Opens the draft.
     fn header(&mut self, source: &Record) -> Result<Entry, Fault>
         requires phase { ⌜ now self .phase ≡ Phase.Header ⌝ }
         requires letter { ⌜ now source .letter ≡ 78 ⌝ }
@@ -36,5 +37,74 @@ impl DeckReader {
         self.told = 0;
         self.records = 1;
         Ok(Entry::Header(header))
+    }
+
+    // Takes the next input; after the last come the gates.
+    fn input(&mut self, source: &Record) -> Result<Entry, Fault>
+        requires phase { ⌜ now self .phase ≡ Phase.Inputs ⌝ }
+        requires letter { ⌜ now source .letter ≡ 73 ⌝ }
+        ensures { λ r. ⌜ Cases r (λ e. Took (now (self .entry)) (now (self .exit)) (whole (now (source .entry))) e) (λ f. Failed (whole (now (source .entry))) (now (source .entry) .number) (fields-tests (expected (progress-of (now (self .entry)))) (length (whole (now (source .entry))))) f × (now (self .exit) ≡ now (self .entry))) ⌝ }
+    {
+        let line = self.told + 1;
+        source.input(line)?;
+        let phase = if line == self.draft.inputs() {
+            Phase::Gates
+        } else {
+            Phase::Inputs
+        };
+        self.phase = phase;
+        self.told = line;
+        self.records += 1;
+        Ok(Entry::Input(line))
+    }
+
+    // Takes the next gate; after the last come the outputs.
+    fn gate(&mut self, source: &Record) -> Result<Entry, Fault>
+        requires phase { ⌜ now self .phase ≡ Phase.Gates ⌝ }
+        requires letter { ⌜ now source .letter ≡ 71 ⌝ }
+        ensures { λ r. ⌜ Cases r (λ e. Took (now (self .entry)) (now (self .exit)) (whole (now (source .entry))) e) (λ f. Failed (whole (now (source .entry))) (now (source .entry) .number) (fields-tests (expected (progress-of (now (self .entry)))) (length (whole (now (source .entry))))) f × (now (self .exit) ≡ now (self .entry))) ⌝ }
+    {
+        let line = self.draft.next_line();
+        let row = source.gate(line, self.draft.lines())?;
+        let _ = self.draft
+            .add_gate(row.kind, row.delay, &row.lines[0..row.count]);
+        let phase = if self.draft.takes_gate() {
+            Phase::Gates
+        } else {
+            Phase::Outputs
+        };
+        self.phase = phase;
+        self.records += 1;
+        Ok(Entry::Gate(line, row))
+    }
+
+    // Takes the next output; after the last comes the end.
+    fn output(&mut self, source: &Record) -> Result<Entry, Fault>
+        requires phase { ⌜ now self .phase ≡ Phase.Outputs ⌝ }
+        requires letter { ⌜ now source .letter ≡ 79 ⌝ }
+        ensures { λ r. ⌜ Cases r (λ e. Took (now (self .entry)) (now (self .exit)) (whole (now (source .entry))) e) (λ f. Failed (whole (now (source .entry))) (now (source .entry) .number) (fields-tests (expected (progress-of (now (self .entry)))) (length (whole (now (source .entry))))) f × (now (self .exit) ≡ now (self .entry))) ⌝ }
+    {
+        let line = source.output(self.draft.lines())?;
+        let _ = self.draft.add_output(line);
+        let phase = if self.draft.takes_output() {
+            Phase::Outputs
+        } else {
+            Phase::End
+        };
+        self.phase = phase;
+        self.records += 1;
+        Ok(Entry::Output(line))
+    }
+
+    // Takes the end.
+    fn end(&mut self, source: &Record) -> Result<Entry, Fault>
+        requires phase { ⌜ now self .phase ≡ Phase.End ⌝ }
+        requires letter { ⌜ now source .letter ≡ 69 ⌝ }
+        ensures { λ r. ⌜ Cases r (λ e. Took (now (self .entry)) (now (self .exit)) (whole (now (source .entry))) e) (λ f. Failed (whole (now (source .entry))) (now (source .entry) .number) (fields-tests (expected (progress-of (now (self .entry)))) (length (whole (now (source .entry))))) f × (now (self .exit) ≡ now (self .entry))) ⌝ }
+    {
+        source.end()?;
+        self.phase = Phase::Done;
+        self.records += 1;
+        Ok(Entry::End)
     }
 }

@@ -3,6 +3,7 @@ pub mod Cutting
 pub mod Exits
 pub mod Failing
 pub mod Following
+pub mod Letters
 pub mod Numbers
 pub mod Passing
 pub mod Phasing

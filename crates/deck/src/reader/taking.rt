@@ -1,17 +1,21 @@
 // Taking the records of a deck.
 ghost use mathlib.Core.Path.{_≡_};
 ghost use mathlib.Core.List.{[], _∷_, _++_};
+ghost use Prim.Native.Nat.{suc};
 ghost use lib.ListN.{length};
 ghost use Rattle.std.specs.Results.{Cases};
 ghost use Rattle.deck.specs.Progress.{blank, rows, expected};
 ghost use Rattle.deck.specs.Readers.{progress-of, Took};
 ghost use Rattle.deck.specs.Records.{whole, Failed, fields-tests};
+ghost use Rattle.deck.specs.Tests.{tests};
 use super::DeckReader;
 use crate::entry::Entry;
 use crate::fault::Fault;
+use crate::fault::Layer;
 use crate::phase::Phase;
 use crate::record::Record;
 use netlist::draft::Draft;
+use netlist::refusal::Refusal;
 
 impl DeckReader {
     pub fn new() -> DeckReader
@@ -106,5 +110,33 @@ impl DeckReader {
         self.phase = Phase::Done;
         self.records += 1;
         Ok(Entry::End)
+    }
+
+    // Takes a record, whose letter and the reader's own phase together decide what it may be.
+    fn take_record(&mut self, bytes: &[u8]) -> Result<Entry, Fault>
+        ensures { λ r. ⌜ Cases r (λ e. Took (now (self .entry)) (now (self .exit)) (now (bytes .entry)) e) (λ f. Failed (now (bytes .entry)) (suc (length (rows (progress-of (now (self .entry)))))) (tests (expected (progress-of (now (self .entry)))) (length (now (bytes .entry)))) f × (now (self .exit) ≡ now (self .entry))) ⌝ }
+    {
+        let number = self.records + 1;
+        let [letter, fields @ ..] = bytes else {
+            return Err(Fault {
+                refusal: Refusal::Letter,
+                layer: Layer::Record,
+                record: number,
+                column: 1,
+            });
+        };
+        let source = Record {
+            number,
+            letter: *letter,
+            fields,
+        };
+        match (self.phase, *letter) {
+            (Phase::Header, b'N') => self.header(&source),
+            (Phase::Inputs, b'I') => self.input(&source),
+            (Phase::Gates, b'G') => self.gate(&source),
+            (Phase::Outputs, b'O') => self.output(&source),
+            (Phase::End, b'E') => self.end(&source),
+            _ => Err(source.fault(Refusal::Letter, Layer::Record, 1)),
+        }
     }
 }

@@ -1,3 +1,4 @@
+pub mod Bytes
 pub mod Columns
 pub mod Cutting
 pub mod Exits
@@ -9,6 +10,7 @@ pub mod Passing
 pub mod Phasing
 pub mod Readers
 pub mod Records
+pub mod Running
 pub mod Taking
 pub mod Texts
 pub mod Unique

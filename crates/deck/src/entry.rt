@@ -19,3 +19,10 @@ pub enum Entry {
     Output(u32),
     End,
 }
+
+// An entry, and how many bytes its record takes with its ending.
+#[derive(Clone, Copy, Debug)]
+pub struct Taken {
+    pub entry: Entry,
+    pub bytes: usize,
+}

@@ -8,6 +8,7 @@ ghost use Rattle.deck.specs.Progress.{rows};
 use crate::phase::Phase;
 use netlist::draft::Draft;
 
+pub mod reading;
 pub mod taking;
 
 // How many records it has taken, its phase, how many inputs were told, and the draft so far.

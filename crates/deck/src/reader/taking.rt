@@ -113,7 +113,7 @@ impl DeckReader {
     }
 
     // Takes a record, whose letter and the reader's own phase together decide what it may be.
-    fn take_record(&mut self, bytes: &[u8]) -> Result<Entry, Fault>
+    pub(super) fn take_record(&mut self, bytes: &[u8]) -> Result<Entry, Fault>
         ensures { λ r. ⌜ Cases r (λ e. Took (now (self .entry)) (now (self .exit)) (now (bytes .entry)) e) (λ f. Failed (now (bytes .entry)) (suc (length (rows (progress-of (now (self .entry)))))) (tests (expected (progress-of (now (self .entry)))) (length (now (bytes .entry)))) f × (now (self .exit) ≡ now (self .entry))) ⌝ }
     {
         let number = self.records + 1;

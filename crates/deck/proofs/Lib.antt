@@ -1,4 +1,5 @@
 pub mod Bytes
+pub mod ClosedDecks
 pub mod Columns
 pub mod Cutting
 pub mod Exits

@@ -12,11 +12,11 @@ use Rattle.deck.specs.Records.{whole, Spells}
 use Rattle.deck.specs.Rows.{Row, header, input, gate, output, input-rows, gate-rows, output-rows, text}
 use Rattle.deck.specs.declared.«record».Record.{Record}
 
-length-input-rows : (n : ℕ) → length (input-rows n) ≡ n
+pub length-input-rows : (n : ℕ) → length (input-rows n) ≡ n
 length-input-rows zero = refl
 length-input-rows (suc n) = let longer = length-append (input-rows n) (input (suc n) ∷ []) in omega (arith, length-input-rows n)
 
-length-gate-rows : (n : ℕ) (gs : List Gate) → length (gate-rows n gs) ≡ length gs
+pub length-gate-rows : (n : ℕ) (gs : List Gate) → length (gate-rows n gs) ≡ length gs
 length-gate-rows n [] = refl
 length-gate-rows n (g ∷ gs) = ap suc (length-gate-rows (suc n) gs)
 

@@ -3,6 +3,7 @@ ghost use mathlib.Core.Path.{_≡_};
 ghost use Rattle.deck.specs.Faults.{layer-letter};
 use netlist::refusal::Refusal;
 use netlist::refusal::RefusalDebug;
+use netlist::refusal::RefusalEq;
 use netlist::refusal::RefusalPartialEq;
 
 // The layer that refused: a number field, a record, the netlist, or the session.
@@ -28,7 +29,7 @@ impl Layer {
 }
 
 // A refusal with its layer, its record and its column, both counted from 1.
-#[derive(Clone, Copy, Debug)]
+#[derive(Clone, Copy, PartialEq, Eq, Debug)]
 pub struct Fault {
     pub refusal: Refusal,
     pub layer: Layer,

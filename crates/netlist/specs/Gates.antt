@@ -2,6 +2,7 @@
 use mathlib.Core.Bool.{Bool, true, _&&_}
 use mathlib.Core.List.{List, [], _∷_}
 use Prim.Native.Nat.{ℕ, _+_}
+use lib.Chars.{codes}
 use lib.Dec.{leb, eqb}
 use lib.ListN.{length}
 use Rattle.netlist.specs.declared.kind.Kind.{Kind}
@@ -25,6 +26,16 @@ nothing = record { inputs = 0; gates = []; outputs = [] }
 
 abbrev pub in-range : ℕ → ℕ → ℕ → Bool
 in-range least most n = leb least n && leb n most
+
+abbrev pub kind-name : Kind → List ℕ
+kind-name Buf = codes "BUF"
+kind-name Not = codes "NOT"
+kind-name And = codes "AND"
+kind-name Or = codes "OR"
+kind-name Xor = codes "XOR"
+kind-name Nand = codes "NAND"
+kind-name Nor = codes "NOR"
+kind-name Xnor = codes "XNOR"
 
 -- BUF and NOT have one input, the others two to four
 abbrev pub fits : Kind → ℕ → Bool

@@ -1,5 +1,7 @@
--- The number of every refusal, and of every answer: 0 where nothing is refused.
+-- The number and the word of every refusal, and the number of every answer: 0 where nothing is refused.
+use mathlib.Core.List.{List}
 use Prim.Native.Nat.{ℕ}
+use lib.Chars.{codes}
 use Rattle.netlist.specs.declared.refusal.Refusal.{Refusal}
 use Rattle.std.specs.declared.result.Result.{Result}
 use Rattle.std.specs.declared.result.Result.the-variants.{Ok, Err}
@@ -24,6 +26,27 @@ number Refusal.Full = 16
 number Refusal.Idle = 17
 number Refusal.None = 18
 
+abbrev pub word : Refusal → List ℕ
+word Refusal.Cut = codes "cut"
+word Refusal.Letter = codes "letter"
+word Refusal.Length = codes "length"
+word Refusal.Figure = codes "figure"
+word Refusal.Range = codes "range"
+word Refusal.Turn = codes "turn"
+word Refusal.Kind = codes "kind"
+word Refusal.Open = codes "open"
+word Refusal.Free = codes "free"
+word Refusal.Store = codes "store"
+word Refusal.Starts = codes "starts"
+word Refusal.Line = codes "line"
+word Refusal.Past = codes "past"
+word Refusal.Late = codes "late"
+word Refusal.Unsettled = codes "unsettled"
+word Refusal.Full = codes "full"
+word Refusal.Idle = codes "idle"
+word Refusal.None = codes "none"
+
+-- the number of an answer
 abbrev pub answer : {T : Type 0} → Result T Refusal → ℕ
 answer (Ok x) = 0
 answer (Err r) = number r

@@ -1,6 +1,6 @@
 // The kinds of gates.
 ghost use mathlib.Core.Path.{_≡_};
-ghost use Rattle.netlist.specs.Gates.{fits};
+ghost use Rattle.netlist.specs.Gates.{fits, kind-name};
 
 #[derive(Clone, Copy, PartialEq, Eq, Debug)]
 pub enum Kind {
@@ -22,6 +22,21 @@ impl Kind {
         match self {
             Kind::Buf | Kind::Not => count == 1,
             _ => 2 <= count && count <= 4,
+        }
+    }
+
+    pub fn name(self) -> &'static str
+        ensures { λ r. ⌜ now r ≡ kind-name self ⌝ }
+    {
+        match self {
+            Kind::Buf => "BUF",
+            Kind::Not => "NOT",
+            Kind::And => "AND",
+            Kind::Or => "OR",
+            Kind::Xor => "XOR",
+            Kind::Nand => "NAND",
+            Kind::Nor => "NOR",
+            Kind::Xnor => "XNOR",
         }
     }
 }

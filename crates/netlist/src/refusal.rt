@@ -1,6 +1,6 @@
 // Every refusal of the simulator, with its number and its word.
 ghost use mathlib.Core.Path.{_≡_};
-ghost use Rattle.netlist.specs.Refusals.{number};
+ghost use Rattle.netlist.specs.Refusals.{number, word};
 
 #[derive(Clone, Copy, PartialEq, Eq, Debug)]
 pub enum Refusal {
@@ -47,6 +47,31 @@ impl Refusal {
             Refusal::Full => 16,
             Refusal::Idle => 17,
             Refusal::None => 18,
+        }
+    }
+
+    pub fn word(self) -> &'static str
+        ensures { λ r. ⌜ now r ≡ word self ⌝ }
+    {
+        match self {
+            Refusal::Cut => "cut",
+            Refusal::Letter => "letter",
+            Refusal::Length => "length",
+            Refusal::Figure => "figure",
+            Refusal::Range => "range",
+            Refusal::Turn => "turn",
+            Refusal::Kind => "kind",
+            Refusal::Open => "open",
+            Refusal::Free => "free",
+            Refusal::Store => "store",
+            Refusal::Starts => "starts",
+            Refusal::Line => "line",
+            Refusal::Past => "past",
+            Refusal::Late => "late",
+            Refusal::Unsettled => "unsettled",
+            Refusal::Full => "full",
+            Refusal::Idle => "idle",
+            Refusal::None => "none",
         }
     }
 }

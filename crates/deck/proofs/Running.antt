@@ -45,6 +45,11 @@ goes-on d t bytes used k so-far took =
 pub took-some : (d t : DeckReader) (bytes : List ℕ) (k : Taken) → TookFrom d t bytes k → 0 < k .bytes
 took-some d t bytes k took = omega (arith, took .count)
 
+pub took-within : (d t : DeckReader) (bytes : List ℕ) (k : Taken) → TookFrom d t bytes k → k .bytes ≤ length bytes
+took-within d t bytes k took =
+    let long = length-append (text (row-of (k .entry))) (10 ∷ took .rest) in
+    omega (arith, ap length (took .spelling), took .count)
+
 -- only the last phase is past the end
 over-done : (p : Phase) (told : ℕ) (s t : Sheet) → progress p told s ≡ over t → p ≡ Done
 over-done Header told s t e = absurd (let z : _≡_ {A = ℕ} 0 1 = cc in omega arith)

@@ -17,7 +17,7 @@ use netlist::refusal::Refusal;
 
 // A gate that no input reaches is a fault of the netlist, at the gate's own record: the header is the first
 // record, and line n stands in the record after the n-th.
-fn check_reached(draft: &Draft) -> Result<(), Fault>
+pub fn check_reached(draft: &Draft) -> Result<(), Fault>
     ensures { λ r. ⌜ Cases r (λ _. AllReached (sheet (now (draft .entry)) .circuit)) (λ f. FreeFault (sheet (now (draft .entry)) .circuit) (told f)) ⌝ }
 {
     match draft.unreached() {

@@ -3,7 +3,7 @@ ghost use mathlib.Core.Path.{_≡_};
 ghost use mathlib.Core.Bool.{true};
 ghost use Prim.Native.Nat.{_+_};
 ghost use lib.ListN.{length};
-ghost use Rattle.netlist.specs.Closed.{circuit, Row, Output};
+ghost use Rattle.netlist.specs.Closed.{circuit, Row, Output, LoopCount};
 ghost use Rattle.netlist.specs.Walks.{Looped};
 use super::Netlist;
 use crate::row::GateRow;
@@ -69,5 +69,18 @@ impl Netlist {
         } else {
             None
         }
+    }
+
+    // How many lines are looped.
+    pub fn looped_lines(&self) -> usize
+        ensures { λ r. ⌜ LoopCount (circuit (now (self .entry))) r ⌝ }
+    {
+        let mut count = 0;
+        for place in 0..self.gates {
+            if self.rows[place].looped {
+                count += 1;
+            }
+        }
+        count
     }
 }

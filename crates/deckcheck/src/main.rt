@@ -90,8 +90,8 @@ fn take_records(rt: &impl Print, bytes: &[u8]) -> io::Result<Result<Draft, Fault
 // Judges and closes a draft.
 fn close(rt: &impl Print, draft: Draft) -> io::Result<Result<(), Fault>> {
     if let Err(fault) = check_reached(&draft) {
-        let word = fault.refusal.word();
-        println!(rt, "judged: {word}, an input reaches not every gate")?;
+        let record = fault.record;
+        println!(rt, "judged: no input reaches the gate of record {record}")?;
         return Ok(Err(fault));
     }
     println!(rt, "judged: an input reaches every gate")?;

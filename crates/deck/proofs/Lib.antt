@@ -3,6 +3,7 @@ pub mod ClosedDecks
 pub mod Columns
 pub mod Cutting
 pub mod Exits
+pub mod FaultRows
 pub mod Failing
 pub mod Following
 pub mod Letters

@@ -1,6 +1,6 @@
 // Faults: what was refused, by which layer, and where.
 ghost use mathlib.Core.Path.{_≡_};
-ghost use Rattle.deck.specs.Faults.{layer-letter};
+ghost use Rattle.deck.specs.Faults.{layer-letter, told, fault-row};
 use netlist::refusal::Refusal;
 use netlist::refusal::RefusalDebug;
 use netlist::refusal::RefusalEq;
@@ -35,4 +35,18 @@ pub struct Fault {
     pub layer: Layer,
     pub record: usize,
     pub column: usize,
+}
+
+impl Fault {
+    // The row of a listing that tells the fault: R, number, record and column right-justified, the layer's letter.
+    pub fn row(&self) -> [u8; 17]
+        ensures { λ r. ⌜ r ≡ fault-row (told (now (self .entry))) ⌝ }
+    {
+        let mut row = *b"R               \n";
+        columns::write(self.refusal.number() as u64, &mut row[1..5]);
+        columns::write(self.record as u64, &mut row[5..10]);
+        columns::write(self.column as u64, &mut row[10..14]);
+        row[15] = self.layer.letter();
+        row
+    }
 }

@@ -2,14 +2,15 @@
 ghost use Prim.Native.Nat.{_≤_};
 ghost use lib.ListN.{length};
 ghost use Rattle.std.specs.Vec.{made};
-use std::io;
-use std::io::Read;
 use deck::closing::check_reached;
 use deck::entry::Entry;
 use deck::fault::Fault;
 use deck::reader::DeckReader;
 use netlist::draft::Draft;
 use netlist::row::GateRow;
+use std::io;
+use std::io::Read;
+use std::io::Write;
 
 // What lies beyond is not read.
 const MOST_BYTES: usize = 32_768;
@@ -49,22 +50,16 @@ fn print_entry(rt: &impl Print, number: usize, entry: Entry) -> io::Result<()> {
             let inputs = header.inputs;
             let gates = header.gates;
             let outputs = header.outputs;
-            println!(rt, "header, {inputs} inputs, {gates} gates, {outputs} outputs")
+            println!(
+                rt,
+                "header, {inputs} inputs, {gates} gates, {outputs} outputs"
+            )
         }
         Entry::Input(line) => println!(rt, "input on line {line}"),
         Entry::Gate(line, row) => print_gate(rt, line, &row),
         Entry::Output(line) => println!(rt, "output of line {line}"),
         Entry::End => println!(rt, "end"),
     }
-}
-
-// The row of a fault: its number, record and column right-justified, and the letter of its layer.
-fn print_fault(rt: &impl Print, fault: &Fault) -> io::Result<()> {
-    let number = fault.refusal.number();
-    let record = fault.record;
-    let column = fault.column;
-    let layer = char::from(fault.layer.letter());
-    println!(rt, "R{number:>4}{record:>5}{column:>4} {layer}")
 }
 
 // Takes the records of a deck one by one, and answers the draft or the fault.
@@ -100,7 +95,10 @@ fn close(rt: &impl Print, draft: Draft) -> io::Result<Result<(), Fault>> {
     let gates = netlist.gates();
     let outputs = netlist.outputs();
     let looped = netlist.looped_lines();
-    println!(rt, "closed: {lines} lines, {gates} gates, {outputs} outputs, {looped} looped lines")?;
+    println!(
+        rt,
+        "closed: {lines} lines, {gates} gates, {outputs} outputs, {looped} looped lines"
+    )?;
     Ok(Ok(()))
 }
 
@@ -116,6 +114,6 @@ fn main(rt: LibcRuntime) -> io::Result<()> {
     let count = fill(&mut rt.stdin(), &mut buffer)?;
     match check(&rt, &buffer[0..count])? {
         Ok(()) => Ok(()),
-        Err(fault) => print_fault(&rt, &fault),
+        Err(fault) => rt.stdout().write_all(&fault.row()),
     }
 }

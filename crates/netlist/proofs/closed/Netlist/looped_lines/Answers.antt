@@ -20,8 +20,8 @@ loop-place-again c =
     let rows = c .args .self .now .rows in
     let n = c .loop-place .place in
     elim (c .if-self-place .came) [
-    | then-self-place w ↦ (omega (arith, w .count-is), counts (λ k. getD rows k no-row .looped) n (c .loop-place .count) _ _ (c .loop-place .inv .1) (w .if-self-place .taken) (w .count-is))
-    | else-self-place w ↦ (omega (arith, w .count-is), counts (λ k. getD rows k no-row .looped) n (c .loop-place .count) _ _ (c .loop-place .inv .1) (w .if-self-place .left) (omega (arith, w .count-is)))
+      | then-self-place w ↦ (omega (arith, w .count-is), counts (λ k. getD rows k no-row .looped) n (c .loop-place .count) _ _ (c .loop-place .inv .1) (w .if-self-place .taken) (w .count-is))
+      | else-self-place w ↦ (omega (arith, w .count-is), counts (λ k. getD rows k no-row .looped) n (c .loop-place .count) _ _ (c .loop-place .inv .1) (w .if-self-place .left) (omega (arith, w .count-is)))
     ]
 
 pub returns : need.returns

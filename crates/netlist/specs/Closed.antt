@@ -15,10 +15,19 @@ use Rattle.netlist.specs.Walks.{no-gate, Looped}
 abbrev pub circuit : Netlist → Circuit
 circuit n = circuit-of (n .inputs) (n .gates) (n .outputs) (n .rows) (n .ends)
 
--- the row of the gate that drives a line; there is none for an input, or past the last line
+-- the row of the gate that drives a line, with its looped mark
+pub record Drives (c : Circuit) (n : ℕ) (row : GateRow) : Type 0 where
+  pub place : ℕ
+  pub within : place < length (c .gates)
+  pub line : n ≡ c .inputs + 1 + place
+  pub its-gate : getD (c .gates) place no-gate ≡ gate-of row
+  pub marked-looped : row .looped ≡ true → ∥ Looped c n ∥₁
+  pub looped-marked : Looped c n → row .looped ≡ true
+
+-- there is no row for an input, or past the last line
 abbrev pub Row : Circuit → ℕ → Option GateRow → Type 0
 Row c n None = (n ≤ c .inputs) ⊎ (c .inputs + length (c .gates) < n)
-Row c n (Some row) = (k : ℕ) × (k < length (c .gates)) × (n ≡ c .inputs + 1 + k) × (getD (c .gates) k no-gate ≡ gate-of row)
+Row c n (Some row) = Drives c n row
 
 abbrev pub Output : Circuit → ℕ → Option ℕ → Type 0
 Output c k None = length (c .outputs) ≤ k

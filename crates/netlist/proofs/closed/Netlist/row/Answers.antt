@@ -4,6 +4,7 @@ use Prim.Native.Nat.{_+_, _-_, _<_, _≤_}
 use native.Mathlib.Omega.{arith}
 use lib.ListN.{length}
 use Rattle.netlist.specs.Closed.{circuit}
+use Rattle.netlist.specs.Walks.{Looped}
 use Rattle.netlist.proofs.Closing.{gates-are}
 use Rattle.netlist.proofs.Tables.{gate-of-place}
 use Rattle.netlist.proofs.closed.Netlist.row.Needs as need
@@ -17,4 +18,12 @@ returns c =
     let k = c .args .line - n .inputs - 1 in
     let within : k < n .gates = omega arith in
     let fits : n .gates ≤ length (n .rows) = omega arith in
-    (k, rw (gates-are n) within, omega arith, gate-of-place (n .gates) k (n .rows) fits within)
+    let is : n .inputs + 1 + k ≡ c .args .line = omega arith in
+    record {
+      place = k;
+      within = rw (gates-are n) within;
+      line = sym is;
+      its-gate = gate-of-place (n .gates) k (n .rows) fits within;
+      marked-looped = λ e. subst (λ m. ∥ Looped (circuit n) m ∥₁) is (n .«marked_looped» k within e);
+      looped-marked = λ walk. n .«looped_marked» k within (subst (Looped (circuit n)) (sym is) walk);
+    }

@@ -15,6 +15,7 @@ use crate::entry::Header;
 use crate::fault::Fault;
 use crate::fault::Layer;
 use columns::Field;
+use netlist::draft::Draft;
 use netlist::kind::Kind;
 use netlist::refusal::Refusal;
 use netlist::row::GateRow;
@@ -146,9 +147,9 @@ impl<'a> Record<'a> {
         ensures { λ r. ⌜ Cases r (λ h. Spells (now (self .entry)) (header (h .inputs) (h .gates) (h .outputs)) × (within-limits (h .inputs) (h .gates) (h .outputs) ≡ true)) (λ f. Failed (whole (now (self .entry))) (now (self .entry) .number) (fields-tests header-next (length (whole (now (self .entry))))) f) ⌝ }
     {
         self.length(&[13])?;
-        let inputs = self.number(2, 4, 1, 256)?;
-        let gates = self.number(6, 4, 1, 768)?;
-        let outputs = self.number(10, 4, 1, 256)?;
+        let inputs = self.number(2, 4, 1, Draft::MOST_INPUTS as u64)?;
+        let gates = self.number(6, 4, 1, Draft::MOST_GATES as u64)?;
+        let outputs = self.number(10, 4, 1, Draft::MOST_OUTPUTS as u64)?;
         Ok(Header {
             inputs: inputs as usize,
             gates: gates as usize,
@@ -173,7 +174,7 @@ impl<'a> Record<'a> {
         let count = (self.fields.len() - 13) / 4;
         self.turn(2, line)?;
         let kind = self.kind()?;
-        let delay = self.number(10, 5, 1, 65_535)?;
+        let delay = self.number(10, 5, 1, Draft::MOST_DELAY as u64)?;
         let reads = self.reads(count, lines)?;
         if !kind.takes(count) {
             return Err(self.fault(Refusal::Kind, Layer::Record, 6));

@@ -70,6 +70,7 @@ impl DeckReader {
     {
         let line = self.draft.next_line();
         let row = source.gate(line, self.draft.lines())?;
+        // The record's tests are the draft's own, so the draft takes the gate.
         let _ = self.draft
             .add_gate(row.kind, row.delay, &row.lines[0..row.count]);
         let phase = if self.draft.takes_gate() {
@@ -89,6 +90,7 @@ impl DeckReader {
         ensures { λ r. ⌜ Cases r (λ e. Took (now (self .entry)) (now (self .exit)) (whole (now (source .entry))) e) (λ f. Failed (whole (now (source .entry))) (now (source .entry) .number) (fields-tests (expected (progress-of (now (self .entry)))) (length (whole (now (source .entry))))) f × (now (self .exit) ≡ now (self .entry))) ⌝ }
     {
         let line = source.output(self.draft.lines())?;
+        // Likewise the output.
         let _ = self.draft.add_output(line);
         let phase = if self.draft.takes_output() {
             Phase::Outputs

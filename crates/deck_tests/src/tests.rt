@@ -1,0 +1,4 @@
+// The tests by their subject.
+mod base;
+mod bytes;
+mod faults;

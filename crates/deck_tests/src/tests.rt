@@ -2,3 +2,6 @@
 mod base;
 mod bytes;
 mod faults;
+mod drafts;
+mod largest;
+mod looped;

@@ -1,0 +1,109 @@
+// A deck of the greatest size.
+use columns::write;
+use deck::fault::FaultDebug;
+use deck::reader::reading::read;
+use netlist::kind::Kind;
+use netlist::kind::KindDebug;
+use netlist::kind::KindPartialEq;
+use netlist::refusal::RefusalDebug;
+use std::alloc::Global;
+use std::test::*;
+
+fn put_line(deck: &mut Vec<u8>, line: u64) -> Result<(), Fail> {
+    let mut columns = [0; 4];
+    check(write(line, &mut columns))?;
+    deck.extend_from_slice(&columns)?;
+    Ok(())
+}
+
+fn put_gate(deck: &mut Vec<u8>, line: u64, kind: &[u8], reads: &[u64]) -> Result<(), Fail> {
+    deck.push(b'G')?;
+    put_line(deck, line)?;
+    deck.extend_from_slice(kind)?;
+    deck.extend_from_slice(b"65535")?;
+    for read in reads {
+        put_line(deck, *read)?;
+    }
+    deck.push(b'\n')?;
+    Ok(())
+}
+
+// Three layers of 256 gates over 256 inputs. Gate n of each:
+// a buffer of input n;
+// a gate of a ring, which reads the one before it, and the first the last;
+// a gate that reads the two before it in its column, of which the last reads itself.
+fn largest(heap: Global) -> Result<Vec<u8>, Fail> {
+    let mut deck = Vec::new(heap);
+    deck.extend_from_slice(b"N 256 768 256\n")?;
+    for n in 1..257 {
+        deck.push(b'I')?;
+        put_line(&mut deck, n)?;
+        deck.push(b'\n')?;
+    }
+    for n in 1..257 {
+        put_gate(&mut deck, 256 + n, b"BUF ", &[n])?;
+    }
+    for n in 1..257 {
+        let before = if n == 1 { 768 } else { 511 + n };
+        put_gate(&mut deck, 512 + n, b"NAND", &[before, n, 256 + n, 1])?;
+    }
+    for n in 1..257 {
+        let last = if n == 256 { 1024 } else { 1 };
+        put_gate(&mut deck, 768 + n, b"XNOR", &[512 + n, 256 + n, n, last])?;
+    }
+    for n in 0..256 {
+        deck.push(b'O')?;
+        put_line(&mut deck, 1024 - n)?;
+        deck.push(b'\n')?;
+    }
+    deck.extend_from_slice(b"E\n")?;
+    Ok(deck)
+}
+
+#[test]
+fn a_deck_of_the_greatest_size(rt: LibcRuntime) -> Result<(), Fail> {
+    let deck = largest(rt.alloc())?;
+    // The records in their order, each with its ending.
+    check_eq(deck.len(), 14 + 256 * 6 + 256 * 19 + 512 * 31 + 256 * 6 + 2)?;
+    let (outcome, draft) = read(&deck);
+    check_eq(outcome?, deck.len())?;
+    check_eq(draft.inputs(), 256)?;
+    check_eq(draft.lines(), 1024)?;
+    check_eq(draft.next_line(), 1025)?;
+    check(!draft.takes_gate())?;
+    check(!draft.takes_output())?;
+    check(draft.is_complete())?;
+    check_eq(draft.unreached(), None)?;
+    draft.judge()?;
+    let (answer, netlist) = draft.close();
+    answer?;
+    check_eq(netlist.inputs(), 256)?;
+    check_eq(netlist.gates(), 768)?;
+    check_eq(netlist.outputs(), 256)?;
+    check_eq(netlist.lines(), 1024)?;
+    // The ring is looped, and the gate that reads itself.
+    for line in 0..1100u32 {
+        let looped = 513 <= line && line <= 768 || line == 1024;
+        check_eq(netlist.looped(line), looped)?;
+    }
+    for place in 0..256u32 {
+        check_eq(netlist.output(place as usize), Some(1024 - place))?;
+    }
+    check_eq(netlist.output(256), None)?;
+    let rows = [
+        (257, Kind::Buf, [1, 0, 0, 0], 1),
+        (512, Kind::Buf, [256, 0, 0, 0], 1),
+        (513, Kind::Nand, [768, 1, 257, 1], 4),
+        (768, Kind::Nand, [767, 256, 512, 1], 4),
+        (769, Kind::Xnor, [513, 257, 1, 1], 4),
+        (1024, Kind::Xnor, [768, 512, 256, 1024], 4),
+    ];
+    for (line, kind, reads, count) in rows {
+        let row = netlist.row(line).ok_or("no gate")?;
+        check_eq(row.kind, kind)?;
+        check_eq(row.delay, 65_535)?;
+        check_eq(row.lines, reads)?;
+        check_eq(row.count, count)?;
+    }
+    Ok(())
+}

@@ -1,7 +1,8 @@
 // The tests by their subject.
 mod base;
 mod bytes;
-mod faults;
 mod drafts;
+mod faults;
 mod largest;
 mod looped;
+mod reader;

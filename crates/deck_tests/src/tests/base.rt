@@ -1,7 +1,9 @@
 // The deck that most tests start from, and what a reading answers.
 use deck::closing::read_netlist;
+use deck::fault::Fault;
 use std::alloc::AllocError;
 use std::alloc::Global;
+use std::test::*;
 
 pub const RECORDS: [&str; 6] = [
     "N   1   2   1",
@@ -19,18 +21,23 @@ pub const BASE: &[u8; 70] =
 // A fault: its number, its layer's letter, its record and its column.
 pub type Told = (u8, char, usize, usize);
 
-// The bytes that a deck took, or its fault.
-pub fn outcome(deck: &[u8]) -> Result<usize, Told> {
-    let (answer, _) = read_netlist(deck);
+// Reads a deck: the bytes that it took, or its fault and the netlist without lines.
+pub fn check_outcome(deck: &[u8], expected: Result<usize, Told>) -> Result<(), Fail> {
+    let (answer, netlist) = read_netlist(deck);
+    check_eq(netlist.lines() == 0, expected.is_err())?;
     match answer {
-        Ok(used) => Ok(used),
-        Err(fault) => Err((
-            fault.refusal.number(),
-            char::from(fault.layer.letter()),
-            fault.record,
-            fault.column,
-        )),
+        Ok(used) => check_eq(Ok(used), expected),
+        Err(fault) => check_eq(Err(told(&fault)), expected),
     }
+}
+
+pub fn told(fault: &Fault) -> Told {
+    (
+        fault.refusal.number(),
+        char::from(fault.layer.letter()),
+        fault.record,
+        fault.column,
+    )
 }
 
 // The base deck with other text in the place of one record, counted from 1.

@@ -1,7 +1,7 @@
 // The base deck with bytes after its end, cut short, and with single bytes put in.
 use super::base::BASE;
 use super::base::Told;
-use super::base::outcome;
+use super::base::check_outcome;
 use std::test::*;
 
 #[test]
@@ -19,7 +19,7 @@ fn bytes_after_the_end_are_left(rt: LibcRuntime) -> Result<(), Fail> {
     for tail in tails {
         let mut deck = BASE.to_vec(rt.alloc())?;
         deck.extend_from_slice(tail)?;
-        check_eq(outcome(&deck), Ok(70))?;
+        check_outcome(&deck, Ok(70))?;
     }
     Ok(())
 }
@@ -38,7 +38,7 @@ fn a_deck_cut_short() -> Result<(), Fail> {
     for (record, first, end) in table {
         for length in first..end {
             let deck = BASE.get(0..length).ok_or("past the deck")?;
-            check_eq(outcome(deck), Err((1, 'R', record, 1)))?;
+            check_outcome(deck, Err((1, 'R', record, 1)))?;
         }
     }
     Ok(())
@@ -50,7 +50,7 @@ fn check_put(bytes: &[u8], first: usize, end: usize, fault: Told) -> Result<(), 
         for byte in bytes {
             let mut deck = *BASE;
             *deck.get_mut(at).ok_or("past the deck")? = *byte;
-            check_eq(outcome(&deck), Err(fault))?;
+            check_outcome(&deck, Err(fault))?;
         }
     }
     Ok(())

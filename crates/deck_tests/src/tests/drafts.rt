@@ -16,16 +16,42 @@ fn number(answer: Result<(), Refusal>) -> u8 {
 }
 
 fn check_empty(netlist: &Netlist) -> Result<(), Fail> {
-    check_eq(netlist.inputs(), 0)?;
-    check_eq(netlist.gates(), 0)?;
-    check_eq(netlist.outputs(), 0)?;
-    check_eq(netlist.lines(), 0)?;
+    check_eq(
+        (netlist.inputs(), netlist.gates(), netlist.outputs()),
+        (0, 0, 0),
+    )?;
     check_eq(netlist.output(0), None)?;
     for line in 0..1030u32 {
         check(netlist.row(line).is_none())?;
         check(!netlist.looped(line))?;
     }
     Ok(())
+}
+
+// An addition to a draft.
+#[derive(Clone, Copy)]
+enum Step {
+    Gate(Kind, u32, &'static [u32]),
+    Output(u32),
+}
+
+impl Step {
+    fn add(self, draft: &mut Draft) -> Result<(), Refusal> {
+        match self {
+            Step::Gate(kind, delay, lines) => draft.add_gate(kind, delay, lines),
+            Step::Output(line) => draft.add_output(line),
+        }
+    }
+}
+
+// What a draft tells of what stands in it.
+fn seen(draft: &Draft) -> (usize, bool, bool, bool) {
+    (
+        draft.next_line(),
+        draft.takes_gate(),
+        draft.takes_output(),
+        draft.is_complete(),
+    )
 }
 
 #[test]
@@ -45,21 +71,20 @@ fn limits_of_a_draft() -> Result<(), Fail> {
     for (inputs, gates, outputs, expected) in table {
         check_eq(number(Draft::limits(inputs, gates, outputs)), expected)?;
         let mut draft = Draft::new(inputs, gates, outputs);
-        check_eq(draft.takes_gate(), expected == 0)?;
-        check(!draft.takes_output())?;
-        check(!draft.is_complete())?;
         if expected == 0 {
-            check_eq(draft.inputs(), inputs)?;
-            check_eq(draft.next_line(), inputs.wrapping_add(1))?;
             check_eq(draft.lines(), inputs.wrapping_add(gates))?;
+            check_eq(seen(&draft), (inputs.wrapping_add(1), true, false, false))?;
         } else {
             // A dead draft takes nothing.
-            check_eq(draft.inputs(), 0)?;
+            for step in [
+                Step::Gate(Kind::Not, 1, &[1]),
+                Step::Gate(Kind::Not, 0, &[]),
+                Step::Output(1),
+            ] {
+                check_eq(number(step.add(&mut draft)), 2)?;
+            }
             check_eq(draft.lines(), 0)?;
-            check_eq(number(draft.add_gate(Kind::Not, 1, &[1])), 2)?;
-            check_eq(number(draft.add_gate(Kind::Not, 0, &[])), 2)?;
-            check_eq(number(draft.add_output(1)), 2)?;
-            check_eq(draft.next_line(), 1)?;
+            check_eq(seen(&draft), (1, false, false, false))?;
         }
         check_eq(number(draft.judge()), 8)?;
         let (answer, netlist) = draft.close();
@@ -93,72 +118,57 @@ fn how_many_lines_a_kind_takes() -> Result<(), Fail> {
     Ok(())
 }
 
+// Tested are the turn, the delay, the lines, then the count; a refused addition alters nothing.
 #[test]
 fn additions_in_their_order() -> Result<(), Fail> {
-    let mut draft = Draft::new(2, 1, 2);
-    // The phase, the delay, the lines, the count; with none of these is anything altered.
-    let refused: [(Kind, u32, &[u32], u8); 12] = [
-        (Kind::Not, 0, &[1], 5),
-        (Kind::Not, 65_536, &[1], 5),
-        (Kind::Not, u32::MAX, &[1], 5),
-        (Kind::Not, 1, &[0], 5),
-        (Kind::Not, 1, &[4], 5),
-        (Kind::Not, 1, &[u32::MAX], 5),
-        (Kind::Nand, 0, &[1], 5),
-        (Kind::Nand, 1, &[4], 5),
-        (Kind::Nand, 1, &[1, 2, 3, 1, 4], 5),
-        (Kind::Nand, 1, &[1, 2, 3, 1, 3], 7),
-        (Kind::Nand, 1, &[1], 7),
-        (Kind::Not, 1, &[], 7),
+    let steps = [
+        (Step::Gate(Kind::Not, 0, &[1]), 5),
+        (Step::Gate(Kind::Not, 65_536, &[1]), 5),
+        (Step::Gate(Kind::Not, u32::MAX, &[1]), 5),
+        (Step::Gate(Kind::Not, 1, &[0]), 5),
+        (Step::Gate(Kind::Not, 1, &[4]), 5),
+        (Step::Gate(Kind::Not, 1, &[u32::MAX]), 5),
+        (Step::Gate(Kind::Nand, 0, &[1]), 5),
+        (Step::Gate(Kind::Nand, 1, &[4]), 5),
+        (Step::Gate(Kind::Nand, 1, &[1, 2, 3, 1, 4]), 5),
+        (Step::Gate(Kind::Nand, 1, &[1, 2, 3, 1, 3]), 7),
+        (Step::Gate(Kind::Nand, 1, &[1]), 7),
+        (Step::Gate(Kind::Not, 1, &[]), 7),
+        (Step::Output(0), 2),
+        (Step::Output(3), 2),
+        (Step::Gate(Kind::Nor, 65_535, &[2, 3, 1]), 0),
+        (Step::Gate(Kind::Not, 0, &[]), 2),
+        (Step::Gate(Kind::Not, 1, &[4]), 2),
+        (Step::Gate(Kind::Nand, 1, &[1]), 2),
+        (Step::Gate(Kind::Not, 1, &[1]), 2),
+        (Step::Output(0), 5),
+        (Step::Output(4), 5),
+        (Step::Output(3), 0),
+        (Step::Gate(Kind::Not, 1, &[1]), 2),
+        (Step::Output(u32::MAX), 5),
+        (Step::Output(1), 0),
+        (Step::Output(0), 2),
+        (Step::Output(1), 2),
+        (Step::Gate(Kind::Not, 1, &[1]), 2),
     ];
-    for (kind, delay, lines, expected) in refused {
-        check_eq(number(draft.add_gate(kind, delay, lines)), expected)?;
-        check_eq(draft.next_line(), 3)?;
-        check(draft.takes_gate())?;
+    let mut draft = Draft::new(2, 1, 2);
+    for (step, expected) in steps {
+        let before = seen(&draft);
+        check_eq(number(draft.judge()), if before.3 { 0 } else { 8 })?;
+        check_eq(number(step.add(&mut draft)), expected)?;
+        check(expected == 0 || seen(&draft) == before)?;
     }
-    for line in [0, 1, 3, 4] {
-        check_eq(number(draft.add_output(line)), 2)?;
-    }
-    check_eq(number(draft.judge()), 8)?;
-    check_eq(number(draft.add_gate(Kind::Nor, 65_535, &[2, 3, 1])), 0)?;
-    check_eq(draft.next_line(), 4)?;
-    check(!draft.takes_gate())?;
-    for (kind, delay, lines, _) in refused {
-        check_eq(number(draft.add_gate(kind, delay, lines)), 2)?;
-    }
-    check_eq(number(draft.add_gate(Kind::Not, 1, &[1])), 2)?;
-    check_eq(draft.next_line(), 4)?;
-    for line in [0, 4, u32::MAX] {
-        check_eq(number(draft.add_output(line)), 5)?;
-    }
-    check_eq(number(draft.add_output(3)), 0)?;
-    for line in [0, 4, u32::MAX] {
-        check_eq(number(draft.add_output(line)), 5)?;
-    }
-    check_eq(number(draft.judge()), 8)?;
-    check_eq(number(draft.add_output(1)), 0)?;
-    for line in [0, 1, 3, 4] {
-        check_eq(number(draft.add_output(line)), 2)?;
-    }
-    check_eq(number(draft.add_gate(Kind::Not, 1, &[1])), 2)?;
-    check_eq(number(draft.judge()), 0)?;
     let (answer, netlist) = draft.close();
     check_eq(number(answer), 0)?;
-    check_eq(netlist.inputs(), 2)?;
-    check_eq(netlist.gates(), 1)?;
-    check_eq(netlist.outputs(), 2)?;
     check_eq(netlist.lines(), 3)?;
-    check_eq(netlist.output(0), Some(3))?;
-    check_eq(netlist.output(1), Some(1))?;
-    check_eq(netlist.output(2), None)?;
-    check(netlist.row(2).is_none())?;
-    check(netlist.row(4).is_none())?;
+    check_eq(
+        [netlist.output(0), netlist.output(1), netlist.output(2)],
+        [Some(3), Some(1), None],
+    )?;
+    check(netlist.row(2).is_none() && netlist.row(4).is_none())?;
     let row = netlist.row(3).ok_or("no gate")?;
     check_eq(row.kind, Kind::Nor)?;
-    check_eq(row.delay, 65_535)?;
-    check_eq(row.lines, [2, 3, 1, 0])?;
-    check_eq(row.count, 3)?;
-    check(row.looped)
+    check_eq((row.delay, row.lines, row.count), (65_535, [2, 3, 1, 0], 3))
 }
 
 #[test]

@@ -1,7 +1,7 @@
 // Each record's faults, in the order of its tests, and the faults of whole decks.
 use super::base::BASE;
 use super::base::Told;
-use super::base::outcome;
+use super::base::check_outcome;
 use super::base::with_record;
 use std::alloc::Global;
 use std::test::*;
@@ -13,7 +13,7 @@ fn check_refused(heap: Global, record: usize, table: &[Refused]) -> Result<(), F
     for (text, number, layer, column) in table {
         let deck = with_record(heap, record, text)?;
         let fault = (*number, *layer, record, *column);
-        check_eq(outcome(&deck), Err(fault)).note(*text)?;
+        check_outcome(&deck, Err(fault)).note(*text)?;
     }
     Ok(())
 }
@@ -221,7 +221,7 @@ fn records_that_are_taken(rt: LibcRuntime) -> Result<(), Fail> {
     ];
     for (record, text, expected) in table {
         let deck = with_record(rt.alloc(), record, text)?;
-        check_eq(outcome(&deck), expected).note(text)?;
+        check_outcome(&deck, expected).note(text)?;
     }
     Ok(())
 }
@@ -272,7 +272,7 @@ fn faults_of_whole_decks() -> Result<(), Fail> {
         ),
     ];
     for (deck, fault) in table {
-        check_eq(outcome(deck.as_bytes()), Err(fault)).note(deck)?;
+        check_outcome(deck.as_bytes(), Err(fault)).note(deck)?;
     }
-    check_eq(outcome(BASE), Ok(70))
+    check_outcome(BASE, Ok(70))
 }

@@ -67,23 +67,20 @@ fn a_deck_of_the_greatest_size(rt: LibcRuntime) -> Result<(), Fail> {
     check_eq(deck.len(), 14 + 256 * 6 + 256 * 19 + 512 * 31 + 256 * 6 + 2)?;
     let (outcome, draft) = read(&deck);
     check_eq(outcome?, deck.len())?;
-    check_eq(draft.inputs(), 256)?;
-    check_eq(draft.lines(), 1024)?;
-    check_eq(draft.next_line(), 1025)?;
-    check(!draft.takes_gate())?;
-    check(!draft.takes_output())?;
+    check_eq((draft.lines(), draft.next_line()), (1024, 1025))?;
     check(draft.is_complete())?;
     check_eq(draft.unreached(), None)?;
     draft.judge()?;
     let (answer, netlist) = draft.close();
     answer?;
-    check_eq(netlist.inputs(), 256)?;
-    check_eq(netlist.gates(), 768)?;
-    check_eq(netlist.outputs(), 256)?;
+    check_eq(
+        (netlist.inputs(), netlist.gates(), netlist.outputs()),
+        (256, 768, 256),
+    )?;
     check_eq(netlist.lines(), 1024)?;
     // The ring is looped, and the gate that reads itself.
-    for line in 0..1100u32 {
-        let looped = 513 <= line && line <= 768 || line == 1024;
+    for line in 0..1100 {
+        let looped = (513..769).contains(&line) || line == 1024;
         check_eq(netlist.looped(line), looped)?;
     }
     for place in 0..256u32 {
@@ -101,9 +98,7 @@ fn a_deck_of_the_greatest_size(rt: LibcRuntime) -> Result<(), Fail> {
     for (line, kind, reads, count) in rows {
         let row = netlist.row(line).ok_or("no gate")?;
         check_eq(row.kind, kind)?;
-        check_eq(row.delay, 65_535)?;
-        check_eq(row.lines, reads)?;
-        check_eq(row.count, count)?;
+        check_eq((row.delay, row.lines, row.count), (65_535, reads, count))?;
     }
     Ok(())
 }

@@ -24,11 +24,11 @@ pub type Told = (u8, char, usize, usize);
 // Reads a deck: the bytes that it took, or its fault and the netlist without lines.
 pub fn check_outcome(deck: &[u8], expected: Result<usize, Told>) -> Result<(), Fail> {
     let (answer, netlist) = read_netlist(deck);
-    check_eq(netlist.lines() == 0, expected.is_err())?;
     match answer {
-        Ok(used) => check_eq(Ok(used), expected),
-        Err(fault) => check_eq(Err(told(&fault)), expected),
+        Ok(used) => check_eq(Ok(used), expected)?,
+        Err(fault) => check_eq(Err(told(&fault)), expected)?,
     }
+    check_eq(netlist.lines() == 0, expected.is_err())
 }
 
 pub fn told(fault: &Fault) -> Told {

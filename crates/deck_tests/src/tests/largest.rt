@@ -16,11 +16,17 @@ fn put_line(deck: &mut Vec<u8>, line: u64) -> Result<(), Fail> {
     Ok(())
 }
 
-fn put_gate(deck: &mut Vec<u8>, line: u64, kind: &[u8], reads: &[u64]) -> Result<(), Fail> {
-    deck.push(b'G')?;
+// A record: its letter, its line, the fields after it, and the lines that it reads.
+fn put_record(
+    deck: &mut Vec<u8>,
+    letter: &[u8],
+    line: u64,
+    fields: &[u8],
+    reads: &[u64],
+) -> Result<(), Fail> {
+    deck.extend_from_slice(letter)?;
     put_line(deck, line)?;
-    deck.extend_from_slice(kind)?;
-    deck.extend_from_slice(b"65535")?;
+    deck.extend_from_slice(fields)?;
     for read in reads {
         put_line(deck, *read)?;
     }
@@ -28,33 +34,39 @@ fn put_gate(deck: &mut Vec<u8>, line: u64, kind: &[u8], reads: &[u64]) -> Result
     Ok(())
 }
 
-// Three layers of 256 gates over 256 inputs. Gate n of each:
-// a buffer of input n;
-// a gate of a ring, which reads the one before it, and the first the last;
-// a gate that reads the two before it in its column, of which the last reads itself.
+// Three layers of 256 gates over 256 inputs: a buffer of each input; a ring, in which each gate reads the one
+// before it, and the first the last; and gates that read the layers below, of which the last reads itself too.
 fn largest(heap: Global) -> Result<Vec<u8>, Fail> {
     let mut deck = Vec::new(heap);
     deck.extend_from_slice(b"N 256 768 256\n")?;
     for n in 1..257 {
-        deck.push(b'I')?;
-        put_line(&mut deck, n)?;
-        deck.push(b'\n')?;
+        put_record(&mut deck, b"I", n, b"", &[])?;
     }
     for n in 1..257 {
-        put_gate(&mut deck, 256 + n, b"BUF ", &[n])?;
+        put_record(&mut deck, b"G", 256 + n, b"BUF 65535", &[n])?;
     }
     for n in 1..257 {
         let before = if n == 1 { 768 } else { 511 + n };
-        put_gate(&mut deck, 512 + n, b"NAND", &[before, n, 256 + n, 1])?;
+        put_record(
+            &mut deck,
+            b"G",
+            512 + n,
+            b"NAND65535",
+            &[before, n, 256 + n, 1],
+        )?;
     }
     for n in 1..257 {
         let last = if n == 256 { 1024 } else { 1 };
-        put_gate(&mut deck, 768 + n, b"XNOR", &[512 + n, 256 + n, n, last])?;
+        put_record(
+            &mut deck,
+            b"G",
+            768 + n,
+            b"XNOR65535",
+            &[512 + n, 256 + n, n, last],
+        )?;
     }
     for n in 0..256 {
-        deck.push(b'O')?;
-        put_line(&mut deck, 1024 - n)?;
-        deck.push(b'\n')?;
+        put_record(&mut deck, b"O", 1024 - n, b"", &[])?;
     }
     deck.extend_from_slice(b"E\n")?;
     Ok(deck)

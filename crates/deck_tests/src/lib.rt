@@ -1,0 +1,3 @@
+// Nothing but tests: of drafts and netlists, and of decks and their faults.
+#[cfg(test)]
+mod tests;

@@ -1,6 +1,6 @@
 // A record of a deck taken apart: its letter, and the fields that stand in its columns.
 ghost use mathlib.Core.Path.{_≡_};
-ghost use mathlib.Core.Bool.{true};
+ghost use mathlib.Core.Bool.{true, false};
 ghost use Prim.Native.Nat.{_+_, _*_, _≤_};
 ghost use lib.ListN.{length};
 ghost use Rattle.std.specs.Results.{Cases};
@@ -168,7 +168,7 @@ impl<'a> Record<'a> {
     // G: the next gate.
     pub(crate) fn gate(&self, line: usize, lines: usize) -> Result<GateRow, Fault>
         requires { ⌜ lines ≤ 1024 ⌝ }
-        ensures { λ r. ⌜ Cases r (λ row. Spells (now (self .entry)) (gate line (gate-of row)) × (legal lines (gate-of row) ≡ true) × (row .count ≤ 4)) (λ f. Failed (whole (now (self .entry))) (now (self .entry) .number) (fields-tests (gate-next line lines) (length (whole (now (self .entry))))) f) ⌝ }
+        ensures { λ r. ⌜ Cases r (λ row. Spells (now (self .entry)) (gate line (gate-of row)) × (legal lines (gate-of row) ≡ true) × (row .count ≤ 4) × (row .looped ≡ false)) (λ f. Failed (whole (now (self .entry))) (now (self .entry) .number) (fields-tests (gate-next line lines) (length (whole (now (self .entry))))) f) ⌝ }
     {
         self.length(&[18, 22, 26, 30])?;
         let count = (self.fields.len() - 13) / 4;

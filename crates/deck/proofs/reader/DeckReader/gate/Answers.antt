@@ -60,6 +60,7 @@ returns c =
     let is = gate-added d (c .pre .phase) (handed row) t (c .add-gate .result) (c .add-gate .ensures .answers) (c .add-gate .ensures .adds) fine in
     record {
       spelling = whole-is (c .args .source .now) (gate (c .next-line-line .result) (gate-of row)) 71 (c .pre .letter) (c .in-Continue-row .ensures tt .0) refl;
+      unmarked = c .in-Continue-row .ensures tt .3;
       one-more = gate-stands d (c .pre .phase) (handed row) t is (c .if-takes-gate .phase) (elim (c .if-takes-gate .came) [ then-takes-gate w ↦ inl (w .if-takes-gate .ensures tt, w .phase-is) | else-takes-gate w ↦ inr (w .if-takes-gate .ensures tt, w .phase-is) ]) .grown
           ∙ (λ i. rows (progress-of d) ++ (gate (sym (c .next-line-line .ensures) i) (same-gate row i) ∷ []));
     }

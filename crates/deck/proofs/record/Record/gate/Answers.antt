@@ -1,4 +1,4 @@
-use mathlib.Core.Path.{_≡_, sym, ap, subst, _∙_}
+use mathlib.Core.Path.{_≡_, refl, sym, ap, subst, _∙_}
 use mathlib.Core.Bool.{true, false}
 use mathlib.Core.List.{List, [], _∷_, _++_, append-nil}
 use Prim.Native.Nat.{ℕ, suc, _+_, _-_, _*_, _/_, _<_, _≤_}
@@ -104,4 +104,5 @@ returns c =
       first ∙ ap (λ l. spelled 4 (c .args .line) ++ l) (second ∙ ap (λ l. kind-text (c .in-Continue-kind .kind) ++ l) (third ∙ ap (λ l. spelled 5 (c .in-Continue-delay .delay) ++ l) last)),
       and-from _ _ (and-from _ _ (inside 1 65535 _ (delay .1) (delay .2)) (on-lines-of (c .args .lines) ns count few (λ i below. inside 1 _ _ (reads .1 i below .1) (reads .1 i below .2)))) (ap (fits (c .in-Continue-kind .kind)) (length-take-le count ns few) ∙ sym (c .if-not-takes .ensures tt)),
       wide .1,
+      refl,
     )

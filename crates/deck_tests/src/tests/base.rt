@@ -5,7 +5,7 @@ use std::alloc::AllocError;
 use std::alloc::Global;
 use std::test::*;
 
-pub const RECORDS: [&str; 6] = [
+pub(super) const RECORDS: [&str; 6] = [
     "N   1   2   1",
     "I   1",
     "G   2NOT     2   1",
@@ -15,14 +15,14 @@ pub const RECORDS: [&str; 6] = [
 ];
 
 // The same records, each ended by byte 10.
-pub const BASE: &[u8; 70] =
+pub(super) const BASE: &[u8; 70] =
     b"N   1   2   1\nI   1\nG   2NOT     2   1\nG   3AND     1   1   2\nO   3\nE\n";
 
 // A fault: its number, its layer's letter, its record and its column.
-pub type Told = (u8, char, usize, usize);
+pub(super) type Told = (u8, char, usize, usize);
 
 // Reads a deck: the bytes that it took, or its fault and the netlist without lines.
-pub fn check_outcome(deck: &[u8], expected: Result<usize, Told>) -> Result<(), Fail> {
+pub(super) fn check_outcome(deck: &[u8], expected: Result<usize, Told>) -> Result<(), Fail> {
     let (answer, netlist) = read_netlist(deck);
     match answer {
         Ok(used) => check_eq(Ok(used), expected)?,
@@ -31,7 +31,7 @@ pub fn check_outcome(deck: &[u8], expected: Result<usize, Told>) -> Result<(), F
     check_eq(netlist.lines() == 0, expected.is_err())
 }
 
-pub fn told(fault: &Fault) -> Told {
+pub(super) fn told(fault: &Fault) -> Told {
     (
         fault.refusal.number(),
         char::from(fault.layer.letter()),
@@ -41,7 +41,7 @@ pub fn told(fault: &Fault) -> Told {
 }
 
 // The base deck with other text in the place of one record, counted from 1.
-pub fn with_record(heap: Global, number: usize, text: &str) -> Result<Vec<u8>, AllocError> {
+pub(super) fn with_record(heap: Global, number: usize, text: &str) -> Result<Vec<u8>, AllocError> {
     let mut deck = Vec::new(heap);
     for (place, record) in RECORDS.iter().enumerate() {
         let chosen = if place + 1 == number { text } else { *record };

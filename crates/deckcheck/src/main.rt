@@ -1,4 +1,6 @@
 // Checks a deck from standard input, and prints each action that it takes.
+#![tactic(auto)]
+
 ghost use Rattle.std.specs.Prelude.{◌≤◌, length, IfOk};
 
 use deck::closing::check_reached;

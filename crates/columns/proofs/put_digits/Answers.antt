@@ -3,14 +3,14 @@ use Rattle.std.proofs.lemmas.Fmt.{decimal_nonempty}
 use Rattle.columns.proofs.Writings.{put_none, put_before, put_more, put_all, put_place}
 use Rattle.columns.proofs.put_digits.Goals as goal
 
-pub overflow-sub-at : goal.overflow-sub-at
-overflow-sub-at c = omega (arith, c.requires, decimal_nonempty c.args.number (omega arith))
+pub overflow_sub-at : goal.overflow_sub-at
+overflow_sub-at c = omega (arith, c.requires, decimal_nonempty c.args.number (omega arith))
 
 pub loop-rest-init : goal.loop-rest-init
 loop-rest-init c = put_none c.args.number c.args.columns.now (omega arith) c.requires
 
-pub overflow-sub-at-in-loop-rest : goal.overflow-sub-at-in-loop-rest
-overflow-sub-at-in-loop-rest c = put_before c.args.number c.loop-rest.columns c.loop-rest.at c.loop-rest.rest c.loop-rest.invariant (omega arith)
+pub overflow_sub-at-in-loop-rest : goal.overflow_sub-at-in-loop-rest
+overflow_sub-at-in-loop-rest c = put_before c.args.number c.loop-rest.columns c.loop-rest.at c.loop-rest.rest c.loop-rest.invariant (omega arith)
 
 pub loop-rest-preserved : goal.loop-rest-preserved
 loop-rest-preserved c =

@@ -3,8 +3,8 @@ use Rattle.std.proofs.lemmas.List.{length-take, length-drop}
 use Rattle.deck.proofs.Running.{took_within}
 use Rattle.deckcheck.proofs.take_records.Goals as goal
 
-pub overflow-add-used : goal.overflow-add-used
-overflow-add-used g c =
+pub overflow_add-used : goal.overflow_add-used
+overflow_add-used g c =
     let bytes = c.args.bytes.now in
     let used = c.loop-number.used in
     let part = length-take (length bytes - used) (drop used bytes) in

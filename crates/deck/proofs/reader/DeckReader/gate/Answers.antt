@@ -12,18 +12,18 @@ use Rattle.deck.proofs.Exits.{carried}
 use Rattle.deck.proofs.Readers.{few_records, counted_more, reader_expects_gate, gate_added, gate_stands}
 use Rattle.deck.proofs.Taking.{whole_is}
 use Rattle.deck.proofs.reader.DeckReader.gate.Goals as goal
-use Rattle.deck.proofs.reader.DeckReader.gate.Goals.{then-takes-gate, else-takes-gate}
+use Rattle.deck.proofs.reader.DeckReader.gate.Goals.{then-takes_gate, else-takes_gate}
 
-pub returns-in-err-row : goal.returns-in-err-row
-returns-in-err-row c =
+pub returns-in_err-row : goal.returns-in_err-row
+returns-in_err-row c =
     let r = c.args.source.now in
-    let f = c.in-err-row.field-0.0 in
-    let next : gate_next c.next-line-line.result c.lines.result ≡ _ = (λ i. gate_next (c.next-line-line.ensures i) (c.lines.ensures i)) ∙ sym (reader_expects_gate c.args.self.now c.requires.phase) in
-    carried c.from-residual.result f _ _ c.from-residual.ensures.1
-    (subst (λ e. Failed (whole r) r.number (fields_tests e (length (whole r))) f) next c.in-err-row.ensures, refl)
+    let f = c.in_err-row.field-0.0 in
+    let next : gate_next c.next_line-line.result c.lines.result ≡ _ = (λ i. gate_next (c.next_line-line.ensures i) (c.lines.ensures i)) ∙ sym (reader_expects_gate c.args.self.now c.requires.phase) in
+    carried c.from_residual.result f _ _ c.from_residual.ensures.1
+    (subst (λ e. Failed (whole r) r.number (fields_tests e (length (whole r))) f) next c.in_err-row.ensures, refl)
 
-pub overflow-add-self : goal.overflow-add-self
-overflow-add-self c = omega (arith, few_records c.args.self.now)
+pub overflow_add-self : goal.overflow_add-self
+overflow_add-self c = omega (arith, few_records c.args.self.now)
 
 -- the gate that is handed to the draft is that of the row
 handed : GateRow → Gate
@@ -33,28 +33,31 @@ same_gate : (row : GateRow) → handed row ≡ gate_of row
 unfolding handed
 same_gate row = ap (λ k. record { kind = row.kind; delay = row.delay; reads = take k row.lines }) (sub-zero row.count)
 
-pub invariant-of-self : goal.invariant-of-self
+pub invariant_of-self : goal.invariant_of-self
 unfolding handed
-invariant-of-self c =
+invariant_of-self c =
     let d = c.args.self.now in
-    let row = c.in-ok-row.row in
-    let fine : legal (lines (sheet d.draft)) (handed row) ≡ true = ap (legal (lines (sheet d.draft))) (same_gate row) ∙ ap (λ m. legal m (gate_of row)) (sym c.lines.ensures) ∙ c.in-ok-row.ensures.1 in
-    let t = c.add-gate.new.self in
-    let is = gate_added d c.requires.phase (handed row) t c.add-gate.result c.add-gate.ensures.answers c.add-gate.ensures.adds fine in
-    let at = gate_stands d c.requires.phase (handed row) t is c.if-takes-gate.phase (elim c.if-takes-gate.branch [ then-takes-gate w ↦ inl (w.if-takes-gate.ensures, w.phase-is) | else-takes-gate w ↦ inr (w.if-takes-gate.ensures, w.phase-is) ]) in
-    (at.agreed, (counted_more d _ _ at.grown, tt))
+    let row = c.in_ok-row.row in
+    let fine : legal (lines (sheet d.draft)) (handed row) ≡ true = ap (legal (lines (sheet d.draft))) (same_gate row) ∙ ap (λ m. legal m (gate_of row)) (sym c.lines.ensures) ∙ c.in_ok-row.ensures.1 in
+    let t = c.add_gate.new.self in
+    let is = gate_added d c.requires.phase (handed row) t c.add_gate.result c.add_gate.ensures.answers c.add_gate.ensures.adds fine in
+    let at = gate_stands d c.requires.phase (handed row) t is c.if-takes_gate.phase (elim c.if-takes_gate.branch [ then-takes_gate w ↦ inl (w.if-takes_gate.ensures, w.phase-is) | else-takes_gate w ↦ inr (w.if-takes_gate.ensures, w.phase-is) ]) in
+    record {
+      phased = at.agreed;
+      counted = counted_more d _ _ at.grown;
+    }
 
 pub returns : goal.returns
 unfolding handed
 returns c =
     let d = c.args.self.now in
-    let row = c.in-ok-row.row in
-    let fine : legal (lines (sheet d.draft)) (handed row) ≡ true = ap (legal (lines (sheet d.draft))) (same_gate row) ∙ ap (λ m. legal m (gate_of row)) (sym c.lines.ensures) ∙ c.in-ok-row.ensures.1 in
-    let t = c.add-gate.new.self in
-    let is = gate_added d c.requires.phase (handed row) t c.add-gate.result c.add-gate.ensures.answers c.add-gate.ensures.adds fine in
+    let row = c.in_ok-row.row in
+    let fine : legal (lines (sheet d.draft)) (handed row) ≡ true = ap (legal (lines (sheet d.draft))) (same_gate row) ∙ ap (λ m. legal m (gate_of row)) (sym c.lines.ensures) ∙ c.in_ok-row.ensures.1 in
+    let t = c.add_gate.new.self in
+    let is = gate_added d c.requires.phase (handed row) t c.add_gate.result c.add_gate.ensures.answers c.add_gate.ensures.adds fine in
     record {
-      spelling = whole_is c.args.source.now (gate c.next-line-line.result (gate_of row)) 71 c.requires.letter c.in-ok-row.ensures.0 refl;
-      unmarked = c.in-ok-row.ensures.3;
-      one_more = (gate_stands d c.requires.phase (handed row) t is c.if-takes-gate.phase (elim c.if-takes-gate.branch [ then-takes-gate w ↦ inl (w.if-takes-gate.ensures, w.phase-is) | else-takes-gate w ↦ inr (w.if-takes-gate.ensures, w.phase-is) ])).grown
-          ∙ (λ i. rows (progress_of d) ++ (gate (sym c.next-line-line.ensures i) (same_gate row i) ∷ []));
+      spelling = whole_is c.args.source.now (gate c.next_line-line.result (gate_of row)) 71 c.requires.letter c.in_ok-row.ensures.0 refl;
+      unmarked = c.in_ok-row.ensures.3;
+      one_more = (gate_stands d c.requires.phase (handed row) t is c.if-takes_gate.phase (elim c.if-takes_gate.branch [ then-takes_gate w ↦ inl (w.if-takes_gate.ensures, w.phase-is) | else-takes_gate w ↦ inr (w.if-takes_gate.ensures, w.phase-is) ])).grown
+          ∙ (λ i. rows (progress_of d) ++ (gate (sym c.next_line-line.ensures i) (same_gate row i) ∷ []));
     }

@@ -15,7 +15,7 @@ use Rattle.deck.specs.declared.reader.DeckReader.{DeckReader}
 use Rattle.deck.proofs.Letters.{letter_of, none_empty, wrong_letter, other_byte, by_letter}
 use Rattle.deck.proofs.Readers.{few_records, reader_expects_input, reader_expects_gate, reader_expects_output, reader_expects_end}
 use Rattle.deck.proofs.reader.DeckReader.take_record.Goals as goal
-use Rattle.deck.proofs.reader.DeckReader.take_record.Goals.{in-default-2-via-in-Header·+in-default·, in-default-2-via-in-Inputs·+in-default·, in-default-2-via-in-Gates·+in-default·, in-default-2-via-in-Outputs·+in-default·, in-default-2-via-in-End·+in-default·, in-default-2-via-in-Done·}
+use Rattle.deck.proofs.reader.DeckReader.take_record.Goals.{in_default-2-via-in-Header·+in_default·, in_default-2-via-in-Inputs·+in_default·, in_default-2-via-in-Gates·+in_default·, in_default-2-via-in-Outputs·+in_default·, in_default-2-via-in-End·+in_default·, in_default-2-via-in-Done·}
 
 -- the letter that each phase expects
 header_letter : (d : DeckReader) → d.phase ≡ Header → letter_of (expected (progress_of d)) ≡ letter 78
@@ -40,11 +40,11 @@ done_letter d e = ap (λ p. letter_of (expected (progress p d.told (sheet d.draf
 numbered : (d : DeckReader) → d.records + 1 ≡ suc (length (rows (progress_of d)))
 numbered d = add-one d.records ∙ ap suc d.counted
 
-pub overflow-add-number : goal.overflow-add-number
-overflow-add-number c = omega (arith, few_records c.args.self.now)
+pub overflow_add-number : goal.overflow_add-number
+overflow_add-number c = omega (arith, few_records c.args.self.now)
 
-pub returns-in-default : goal.returns-in-default
-returns-in-default c =
+pub returns-in_default : goal.returns-in_default
+returns-in_default c =
     let d = c.args.self.now in
     let none : length c.args.bytes.now < 1 = search rules in
     let empty : c.args.bytes.now ≡ [] = nil_from_length _ (omega arith) in
@@ -85,17 +85,17 @@ refused : (d : DeckReader) (bytes : List ℕ) (b n : ℕ) (f : Fault) → letter
 refused d bytes b n f expects other is =
     wrong_letter (expected (progress_of d)) bytes _ n f (λ p. other_byte bytes b other (subst (Passes bytes) expects p)) (is ∙ ap (λ m. record { number = 2; layer = 82; at = m; column = 1 }) (numbered d))
 
-pub returns-in-default-2 : goal.returns-in-default-2
-returns-in-default-2 c =
+pub returns-in_default-2 : goal.returns-in_default-2
+returns-in_default-2 c =
     let d = c.args.self.now in
     let bytes = c.args.bytes.now in
     let f = c.fault.result in
     let is = ap told c.fault.ensures in
-    elim c.in-default-2.branch [
-      | in-default-2-via-in-Header·+in-default· w ↦ let p : d.phase ≡ Header = search rules in let o : get_or bytes 0 0 ≡ 78 → ⊥ = search rules in (refused d bytes 78 _ f (header_letter d p) o is, refl)
-      | in-default-2-via-in-Inputs·+in-default· w ↦ let p : d.phase ≡ Inputs = search rules in let o : get_or bytes 0 0 ≡ 73 → ⊥ = search rules in (refused d bytes 73 _ f (input_letter d p) o is, refl)
-      | in-default-2-via-in-Gates·+in-default· w ↦ let p : d.phase ≡ Gates = search rules in let o : get_or bytes 0 0 ≡ 71 → ⊥ = search rules in (refused d bytes 71 _ f (gate_letter d p) o is, refl)
-      | in-default-2-via-in-Outputs·+in-default· w ↦ let p : d.phase ≡ Outputs = search rules in let o : get_or bytes 0 0 ≡ 79 → ⊥ = search rules in (refused d bytes 79 _ f (output_letter d p) o is, refl)
-      | in-default-2-via-in-End·+in-default· w ↦ let p : d.phase ≡ End = search rules in let o : get_or bytes 0 0 ≡ 69 → ⊥ = search rules in (refused d bytes 69 _ f (end_letter d p) o is, refl)
-      | in-default-2-via-in-Done· w ↦ let p : d.phase ≡ Done = search rules in (wrong_letter (expected (progress_of d)) bytes _ _ f (λ q. subst (Passes bytes) (done_letter d p) q) (is ∙ ap (λ m. record { number = 2; layer = 82; at = m; column = 1 }) (numbered d)), refl)
+    elim c.in_default-2.branch [
+      | in_default-2-via-in-Header·+in_default· w ↦ let p : d.phase ≡ Header = search rules in let o : get_or bytes 0 0 ≡ 78 → ⊥ = search rules in (refused d bytes 78 _ f (header_letter d p) o is, refl)
+      | in_default-2-via-in-Inputs·+in_default· w ↦ let p : d.phase ≡ Inputs = search rules in let o : get_or bytes 0 0 ≡ 73 → ⊥ = search rules in (refused d bytes 73 _ f (input_letter d p) o is, refl)
+      | in_default-2-via-in-Gates·+in_default· w ↦ let p : d.phase ≡ Gates = search rules in let o : get_or bytes 0 0 ≡ 71 → ⊥ = search rules in (refused d bytes 71 _ f (gate_letter d p) o is, refl)
+      | in_default-2-via-in-Outputs·+in_default· w ↦ let p : d.phase ≡ Outputs = search rules in let o : get_or bytes 0 0 ≡ 79 → ⊥ = search rules in (refused d bytes 79 _ f (output_letter d p) o is, refl)
+      | in_default-2-via-in-End·+in_default· w ↦ let p : d.phase ≡ End = search rules in let o : get_or bytes 0 0 ≡ 69 → ⊥ = search rules in (refused d bytes 69 _ f (end_letter d p) o is, refl)
+      | in_default-2-via-in-Done· w ↦ let p : d.phase ≡ Done = search rules in (wrong_letter (expected (progress_of d)) bytes _ _ f (λ q. subst (Passes bytes) (done_letter d p) q) (is ∙ ap (λ m. record { number = 2; layer = 82; at = m; column = 1 }) (numbered d)), refl)
     ]

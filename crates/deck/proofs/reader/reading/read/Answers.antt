@@ -16,4 +16,4 @@ comes d bytes (Err f) s bad is = (bad.0, dead_then d s bad.1 is)
 pub returns : goal.returns
 returns c =
     let outcome = comes c.run-outcome.new.self c.args.bytes.now c.run-outcome.result _ c.run-outcome.ensures c.finish.ensures in
-    record { comes-to = outcome; only = λ a s other. outcome_unique c.args.bytes.now a _ s _ other outcome }
+    record { comes_to = outcome; only = λ a s other. outcome_unique c.args.bytes.now a _ s _ other outcome }

@@ -10,7 +10,7 @@ use Rattle.deck.proofs.record.Record.figure.Goals as goal
 pub returns-in-Number : goal.returns-in-Number
 returns-in-Number c =
     let r = c.args.self.now in
-    let there = length-columns r.letter r.fields.now c.args.column c.args.width c.requires.past-letter c.requires.within in
+    let there = length-columns r.letter r.fields.now c.args.column c.args.width c.requires.past_letter c.requires.within in
     shows_number (whole r) c.args.column c.args.width there c.in-Number.number
     (subst (λ l. Means l (Number c.in-Number.number)) c.columns.ensures c.in-Number.ensures.means)
 
@@ -21,7 +21,7 @@ no_number f n e is =
 pub returns-in-Blank : goal.returns-in-Blank
 returns-in-Blank c =
     let r = c.args.self.now in
-    let there = length-columns r.letter r.fields.now c.args.column c.args.width c.requires.past-letter c.requires.within in
+    let there = length-columns r.letter r.fields.now c.args.column c.args.width c.requires.past_letter c.requires.within in
     let means = subst (λ l. Means l c.read.result) c.columns.ensures c.read.ensures.means in
     record {
       fails = λ shown. shows_none (whole r) c.args.column c.args.width there c.read.result c.requires.narrow (λ n. no_number c.read.result n c.in-Blank.is) means shown.0 shown.1;

@@ -23,8 +23,8 @@ use Rattle.deck.proofs.record.Record.gate.Goals as goal
 counted : (n : ℕ) → reads_count (suc n) ≡ (n - 13) / 4
 counted n = ap (λ m. m / 4) (omega arith)
 
-pub returns-in-err-length : goal.returns-in-err-length
-returns-in-err-length c = carried c.from-residual.result _ _ _ c.from-residual.ensures.1 (failed_one _ _ (long _) _ _ c.in-err-length.ensures)
+pub returns-in_err-length : goal.returns-in_err-length
+returns-in_err-length c = carried c.from_residual.result _ _ _ c.from_residual.ensures.1 (failed_one _ _ (long _) _ _ c.in_err-length.ensures)
 
 -- a fault of the fields from the kind on, from the delay on, and from the lines on
 module _ (r : List ℕ) (at line lines n : ℕ) (f : Fault) (long-fits : Passes r (long (18 ∷ 22 ∷ 26 ∷ 30 ∷ []))) (line-shown : Shows r 2 4 line) where
@@ -44,29 +44,29 @@ module _ (r : List ℕ) (at line lines n : ℕ) (f : Fault) (long-fits : Passes 
     from_reads : (d : ℕ) → Shows r 10 5 d × (1 ≤ d) × (d ≤ 65535) → Failed r at after_delay f → Failed r at (fields_tests (gate_next line lines) n) f
     from_reads d shown bad = from_delay (failed_right r at (number_tests 10 5 1 65535) after_delay f (number_pass r 10 5 1 65535 d shown.0 shown.1 shown.2) bad)
 
-pub returns-in-err-turn : goal.returns-in-err-turn
-returns-in-err-turn c =
-    carried c.from-residual-in-err-turn.result _ _ _ c.from-residual-in-err-turn.ensures.1
-    (failed_after _ _ (long _) _ _ c.in-ok-length.ensures (failed_left _ _ (line_tests 2 4 c.args.line) _ _ c.in-err-turn.ensures))
+pub returns-in_err-turn : goal.returns-in_err-turn
+returns-in_err-turn c =
+    carried c.from_residual-in_err-turn.result _ _ _ c.from_residual-in_err-turn.ensures.1
+    (failed_after _ _ (long _) _ _ c.in_ok-length.ensures (failed_left _ _ (line_tests 2 4 c.args.line) _ _ c.in_err-turn.ensures))
 
-pub returns-in-err-kind : goal.returns-in-err-kind
-returns-in-err-kind c =
+pub returns-in_err-kind : goal.returns-in_err-kind
+returns-in_err-kind c =
     let r = c.args.self.now in
-    carried c.from-residual-in-err-kind.result _ _ _ c.from-residual-in-err-kind.ensures.1
-    (from_kind (whole r) r.number c.args.line c.args.lines (length (whole r)) _ c.in-ok-length.ensures c.in-ok-turn.ensures (failed_one _ _ kind_known _ _ c.in-err-kind.ensures))
+    carried c.from_residual-in_err-kind.result _ _ _ c.from_residual-in_err-kind.ensures.1
+    (from_kind (whole r) r.number c.args.line c.args.lines (length (whole r)) _ c.in_ok-length.ensures c.in_ok-turn.ensures (failed_one _ _ kind_known _ _ c.in_err-kind.ensures))
 
-pub returns-in-err-delay : goal.returns-in-err-delay
-returns-in-err-delay c =
+pub returns-in_err-delay : goal.returns-in_err-delay
+returns-in_err-delay c =
     let r = c.args.self.now in
-    carried c.from-residual-in-err-delay.result _ _ _ c.from-residual-in-err-delay.ensures.1
-    (from_delay (whole r) r.number c.args.line c.args.lines (length (whole r)) _ c.in-ok-length.ensures c.in-ok-turn.ensures _ c.in-ok-kind.ensures (failed_left _ _ (number_tests 10 5 1 65535) _ _ c.in-err-delay.ensures))
+    carried c.from_residual-in_err-delay.result _ _ _ c.from_residual-in_err-delay.ensures.1
+    (from_delay (whole r) r.number c.args.line c.args.lines (length (whole r)) _ c.in_ok-length.ensures c.in_ok-turn.ensures _ c.in_ok-kind.ensures (failed_left _ _ (number_tests 10 5 1 65535) _ _ c.in_err-delay.ensures))
 
-pub returns-in-err-reads : goal.returns-in-err-reads
-returns-in-err-reads c =
+pub returns-in_err-reads : goal.returns-in_err-reads
+returns-in_err-reads c =
     let r = c.args.self.now in
     let n = length r.fields.now in
-    carried c.from-residual-in-err-reads.result _ _ _ c.from-residual-in-err-reads.ensures.1
-    (from_reads (whole r) r.number c.args.line c.args.lines (suc n) _ c.in-ok-length.ensures c.in-ok-turn.ensures _ c.in-ok-kind.ensures _ c.in-ok-delay.ensures (failed_left _ _ (reads_tests c.args.lines (reads_count (suc n))) _ _ (subst (λ k. Failed (whole r) r.number (reads_tests c.args.lines k) c.in-err-reads.field-0.0) (sym (counted n)) c.in-err-reads.ensures)))
+    carried c.from_residual-in_err-reads.result _ _ _ c.from_residual-in_err-reads.ensures.1
+    (from_reads (whole r) r.number c.args.line c.args.lines (suc n) _ c.in_ok-length.ensures c.in_ok-turn.ensures _ c.in_ok-kind.ensures _ c.in_ok-delay.ensures (failed_left _ _ (reads_tests c.args.lines (reads_count (suc n))) _ _ (subst (λ k. Failed (whole r) r.number (reads_tests c.args.lines k) c.in_err-reads.field-0.0) (sym (counted n)) c.in_err-reads.ensures)))
 
 -- a kind that does not take so many lines is no kind that does
 takes_none : (r : List ℕ) (k : Kind) (count : ℕ) → columns r 6 4 ≡ kind_text k → false ≡ fits k count → Passes r (kind_takes count) → ⊥
@@ -77,27 +77,27 @@ pub returns-then-not-takes : goal.returns-then-not-takes
 returns-then-not-takes c =
     let r = c.args.self.now in
     let n = length r.fields.now in
-    let shown = c.in-ok-reads.ensures.1 in
-    from_reads (whole r) r.number c.args.line c.args.lines (suc n) _ c.in-ok-length.ensures c.in-ok-turn.ensures _ c.in-ok-kind.ensures _ c.in-ok-delay.ensures
-    (subst (λ k. Failed (whole r) r.number (reads_tests c.args.lines k ++ (kind_takes k ∷ [])) c.fault.result) (sym (counted n)) (failed_right _ _ (reads_tests c.args.lines ((n - 13) / 4)) _ _ (reads_pass (whole r) c.args.lines ((n - 13) / 4) _ shown) (failed_one _ _ (kind_takes ((n - 13) / 4)) _ _ (record { fails = takes_none (whole r) _ _ c.in-ok-kind.ensures c.if-not-takes.ensures; is = ap told c.fault.ensures }))))
+    let shown = c.in_ok-reads.ensures.1 in
+    from_reads (whole r) r.number c.args.line c.args.lines (suc n) _ c.in_ok-length.ensures c.in_ok-turn.ensures _ c.in_ok-kind.ensures _ c.in_ok-delay.ensures
+    (subst (λ k. Failed (whole r) r.number (reads_tests c.args.lines k ++ (kind_takes k ∷ [])) c.fault.result) (sym (counted n)) (failed_right _ _ (reads_tests c.args.lines ((n - 13) / 4)) _ _ (reads_pass (whole r) c.args.lines ((n - 13) / 4) _ shown) (failed_one _ _ (kind_takes ((n - 13) / 4)) _ _ (record { fails = takes_none (whole r) _ _ c.in_ok-kind.ensures c.if-not-takes.ensures; is = ap told c.fault.ensures }))))
 
 pub returns : goal.returns
 returns c =
     let r = c.args.self.now in
     let fields = r.fields.now in
     let count = (length fields - 13) / 4 in
-    let wide = gate_lengths (length fields) c.in-ok-length.ensures in
-    let delay = c.in-ok-delay.ensures in
-    let reads = c.in-ok-reads.ensures in
-    let ns = c.in-ok-reads.reads in
+    let wide = gate_lengths (length fields) c.in_ok-length.ensures in
+    let delay = c.in_ok-delay.ensures in
+    let reads = c.in_ok-reads.ensures in
+    let ns = c.in_ok-reads.reads in
     let few : count ≤ length ns = rw reads.0 wide.1 in
-    let first : fields ≡ spelled 4 c.args.line ++ drop 4 fields = cut fields _ 0 4 c.in-ok-turn.ensures.spelling in
-    let second = cut fields _ 4 4 c.in-ok-kind.ensures in
+    let first : fields ≡ spelled 4 c.args.line ++ drop 4 fields = cut fields _ 0 4 c.in_ok-turn.ensures.spelling in
+    let second = cut fields _ 4 4 c.in_ok-kind.ensures in
     let third = cut fields _ 8 5 delay.0.spelling in
     let fourth = cut_joined fields ns 13 count few (λ i below. sym (columns_past_letter r.letter fields (15 + 4 * i) 4 (13 + 4 * i) (omega arith)) ∙ (reads.1 i below).0.spelling) in
     let last : drop 13 fields ≡ flat_map (spelled 4) (take count ns) = fourth ∙ ap (λ l. flat_map (spelled 4) (take count ns) ++ l) (drop_all (13 + 4 * count) fields (omega arith)) ∙ append-nil _ in (
-      first ∙ ap (λ l. spelled 4 c.args.line ++ l) (second ∙ ap (λ l. kind_text c.in-ok-kind.kind ++ l) (third ∙ ap (λ l. spelled 5 c.in-ok-delay.delay ++ l) last)),
-      and_from _ _ (and_from _ _ (inside 1 65535 _ delay.1 delay.2) (on_lines_of c.args.lines ns count few (λ i below. inside 1 _ _ (reads.1 i below).1 (reads.1 i below).2))) (ap (fits c.in-ok-kind.kind) (length-take-le count ns few) ∙ sym c.if-not-takes.ensures),
+      first ∙ ap (λ l. spelled 4 c.args.line ++ l) (second ∙ ap (λ l. kind_text c.in_ok-kind.kind ++ l) (third ∙ ap (λ l. spelled 5 c.in_ok-delay.delay ++ l) last)),
+      and_from _ _ (and_from _ _ (inside 1 65535 _ delay.1 delay.2) (on_lines_of c.args.lines ns count few (λ i below. inside 1 _ _ (reads.1 i below).1 (reads.1 i below).2))) (ap (fits c.in_ok-kind.kind) (length-take-le count ns few) ∙ sym c.if-not-takes.ensures),
       wide.1,
       refl,
     )

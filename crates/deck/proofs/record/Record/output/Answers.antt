@@ -6,14 +6,14 @@ use Rattle.deck.proofs.Exits.{carried}
 use Rattle.deck.proofs.Failing.{failed_one, failed_after}
 use Rattle.deck.proofs.record.Record.output.Goals as goal
 
-pub returns-in-err-length : goal.returns-in-err-length
-returns-in-err-length c = carried c.from-residual.result _ _ _ c.from-residual.ensures.1 (failed_one _ _ (long _) _ _ c.in-err-length.ensures)
+pub returns-in_err-length : goal.returns-in_err-length
+returns-in_err-length c = carried c.from_residual.result _ _ _ c.from_residual.ensures.1 (failed_one _ _ (long _) _ _ c.in_err-length.ensures)
 
-pub returns-in-err-line : goal.returns-in-err-line
-returns-in-err-line c = carried c.from-residual-in-err-line.result _ _ _ c.from-residual-in-err-line.ensures.1 (failed_after _ _ (long _) _ _ c.in-ok-length.ensures c.in-err-line.ensures)
+pub returns-in_err-line : goal.returns-in_err-line
+returns-in_err-line c = carried c.from_residual-in_err-line.result _ _ _ c.from_residual-in_err-line.ensures.1 (failed_after _ _ (long _) _ _ c.in_ok-length.ensures c.in_err-line.ensures)
 
 pub returns : goal.returns
 returns c =
-    let long5 = has_one _ 5 c.in-ok-length.ensures in
-    let line = c.in-ok-line.ensures in
+    let long5 = has_one _ 5 c.in_ok-length.ensures in
+    let line = c.in_ok-line.ensures in
     (cut_last c.args.self.now.fields.now _ 0 4 (omega arith) line.0.spelling, inside 1 _ _ line.1 line.2)

@@ -10,7 +10,7 @@ returns-then-line-inputs c =
     let n = c.args.self.now in
     record {
       marked = λ e. absurd (false≢true e);
-      all-marked = λ walk. absurd (no_walk (circuit n) _ c.args.line (no_gate_line n c.args.line c.then-line-inputs.either) walk);
+      all_marked = λ walk. absurd (no_walk (circuit n) _ c.args.line (no_gate_line n c.args.line c.then-line-inputs.either) walk);
     }
 
 pub returns : goal.returns
@@ -21,5 +21,5 @@ returns c =
     let is : n.inputs + 1 + k ≡ c.args.line = omega arith in
     record {
       marked = λ e. subst (λ m. ∥ Looped (circuit n) m ∥₁) is (n.marked_looped k within e);
-      all-marked = λ walk. n.looped_marked k within (subst (Looped (circuit n)) (sym is) walk);
+      all_marked = λ walk. n.looped_marked k within (subst (Looped (circuit n)) (sym is) walk);
     }

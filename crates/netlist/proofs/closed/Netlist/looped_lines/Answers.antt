@@ -15,8 +15,8 @@ loop-place-preserved c =
     let rows = c.args.self.now.rows in
     let n = c.loop-place.place in
     elim c.if-self-place.branch [
-      | then-self-place w ↦ (omega (arith, w.count_is), counts (λ k. (get_or rows k no_row).looped) n c.loop-place.count _ _ c.loop-place.invariant.1 w.if-self-place.true w.count_is)
-      | else-self-place w ↦ (omega (arith, w.count_is), counts (λ k. (get_or rows k no_row).looped) n c.loop-place.count _ _ c.loop-place.invariant.1 w.if-self-place.false (omega (arith, w.count_is)))
+      | then-self-place w ↦ (omega (arith, w.count-is), counts (λ k. (get_or rows k no_row).looped) n c.loop-place.count _ _ c.loop-place.invariant.1 w.if-self-place.true w.count-is)
+      | else-self-place w ↦ (omega (arith, w.count-is), counts (λ k. (get_or rows k no_row).looped) n c.loop-place.count _ _ c.loop-place.invariant.1 w.if-self-place.false (omega (arith, w.count-is)))
     ]
 
 pub returns : goal.returns

@@ -10,9 +10,9 @@ pub draw-requires : goal.draw-requires
 draw-requires c =
     let d = c.args.self.now in
     let g : Gate = record { kind = c.args.kind; delay = c.args.delay; reads = c.args.lines.now } in
-    let fine = gate_accepted (sheet d) g (sym c.in-ok-test-gate.ensures) in
+    let fine = gate_accepted (sheet d) g (sym c.in_ok-test_gate.ensures) in
     record {
       room = ltb-true _ _ (sym (takes_gate_is d) ∙ fine.0);
-      fan-in = c.new.ensures.fan-in;
+      fan_in = c.new.ensures.fan_in;
       lawful = ap (legal (d.inputs + d.gates)) c.new.ensures.gate ∙ fine.1;
     }

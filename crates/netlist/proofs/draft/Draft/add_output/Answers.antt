@@ -20,18 +20,30 @@ pushed d n room =
     let within : d.named < length d.ends = omega arith in
     take_more_set d.ends d.named n within
 
-pub invariant-of-self : goal.invariant-of-self
-invariant-of-self c =
+pub invariant_of-self : goal.invariant_of-self
+invariant_of-self c =
     let d = c.args.self.now in
-    let next = open_row d c.if-not-takes-output.ensures in
-    (d.table, (length-set d.ends d.named c.args.line ∙ d.list, (d.few_inputs, (d.few_gates, (d.few_outputs, (d.gates_drawn, (omega arith, (λ h. next.0, (d.fan_in, (d.wired, (rw (pushed d c.args.line next.1) (every_push (in_range 1 (d.inputs + d.gates)) (take d.named d.ends) c.args.line d.ends_on_lines (sym c.if-not-in-range.ensures)), tt)))))))))))
+    let next = open_row d c.if-not-takes_output.ensures in
+    record {
+      table = d.table;
+      list = length-set d.ends d.named c.args.line ∙ d.list;
+      few_inputs = d.few_inputs;
+      few_gates = d.few_gates;
+      few_outputs = d.few_outputs;
+      gates_drawn = d.gates_drawn;
+      outputs_named = omega arith;
+      outputs_last = λ h. next.0;
+      fan_in = d.fan_in;
+      wired = d.wired;
+      ends_on_lines = rw (pushed d c.args.line next.1) (every_push (in_range 1 (d.inputs + d.gates)) (take d.named d.ends) c.args.line d.ends_on_lines (sym c.if-not-in_range.ensures));
+    }
 
 pub returns : goal.returns
 returns c =
     let d = c.args.self.now in
-    let next = open_row d c.if-not-takes-output.ensures in
+    let next = open_row d c.if-not-takes_output.ensures in
     record {
       answers = search rules;
       adds = λ _. ap (λ ns. record { gates = d.gates; outputs = d.outputs; circuit = record { inputs = d.inputs; gates = gates_of d.drawn d.rows; outputs = ns } }) (pushed d c.args.line next.1);
-      refused-alters-nothing = search rules;
+      refused_alters_nothing = search rules;
     }

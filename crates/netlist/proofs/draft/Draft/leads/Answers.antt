@@ -7,7 +7,7 @@ use Rattle.netlist.proofs.draft.Draft.leads.Goals as goal
 pub loop-search-init : goal.loop-search-init
 loop-search-init c =
     let made = c.new-search.ensures in
-    begins (sheet c.args.self.now).circuit c.args.first c.args.last c.args.to c.new-search.result made.nothing_seen made.found-start made.length_found made.count-one made.next-none
+    begins (sheet c.args.self.now).circuit c.args.first c.args.last c.args.to c.new-search.result made.nothing_seen made.found_start made.length_found made.count_one made.next_none
 
 pub loop-search-preserved : goal.loop-search-preserved
 loop-search-preserved c =

@@ -18,13 +18,25 @@ same_gates : (d : Draft) (k : ℕ) (looped : Bool) → gates_of d.drawn (set d.r
 unfolding marked
 same_gates d k looped = gates_of_same d.drawn d.rows k (marked d.rows k looped) refl
 
-pub invariant-of-self : goal.invariant-of-self
+pub invariant_of-self : goal.invariant_of-self
 unfolding marked
-invariant-of-self c =
+invariant_of-self c =
     let d = c.loop-place.self in
     let k = c.loop-place.place in
     let row = marked d.rows k c.leads-looped.result in
-    (length-set d.rows k row ∙ d.table, (d.list, (d.few_inputs, (d.few_gates, (d.few_outputs, (d.gates_drawn, (d.outputs_named, (d.outputs_last, (all_rows_set (λ r. r.count ≤ 4) d.rows k row no_row d.fan_in (d.fan_in k), (rw (same_gates d k c.leads-looped.result) d.wired, (d.ends_on_lines, tt)))))))))))
+    record {
+      table = length-set d.rows k row ∙ d.table;
+      list = d.list;
+      few_inputs = d.few_inputs;
+      few_gates = d.few_gates;
+      few_outputs = d.few_outputs;
+      gates_drawn = d.gates_drawn;
+      outputs_named = d.outputs_named;
+      outputs_last = d.outputs_last;
+      fan_in = all_rows_set (λ r. r.count ≤ 4) d.rows k row no_row d.fan_in (d.fan_in k);
+      wired = rw (same_gates d k c.leads-looped.result) d.wired;
+      ends_on_lines = d.ends_on_lines;
+    }
 
 from_itself : (c : Circuit) (n : ℕ) → Leads c n n n → Looped c n
 from_itself c n lead =

@@ -11,8 +11,8 @@ returns-then-line-inputs c =
     let d = c.args.self.now in
     sym (⊎_elim (λ low. reads_at_input (sheet d).circuit _ low) (λ high. reads_past (sheet d).circuit _ (rw (drawn_is d) high.1)) c.then-line-inputs.either)
 
-pub slice-bounds-result-end-2 : goal.slice-bounds-result-end-2
-slice-bounds-result-end-2 c =
+pub slice_bounds-result-end-2 : goal.slice_bounds-result-end-2
+slice_bounds-result-end-2 c =
     let d = c.args.self.now in
     let few = d.fan_in (c.args.line - d.inputs - 1) in
     search rules

@@ -13,46 +13,26 @@ all_drawn : (d : Draft) → complete (sheet d) ≡ true → d.gates ≡ d.drawn
 all_drawn d whole =
     sym (eqb-true _ _ (and_parts (ltb 0 d.gates) (eqb d.drawn d.gates) (and_parts _ (eqb d.named d.outputs) (sym (complete_is d) ∙ whole)).0).1)
 
-pub invariant-of-result : goal.invariant-of-result
-invariant-of-result c =
-    let d = c.mark-loops.new.self in
-    let same = c.mark-loops.ensures.same in
+pub invariant_of-result : goal.invariant_of-result
+invariant_of-result c =
+    let d = c.mark_loops.new.self in
+    let same = c.mark_loops.ensures.same in
     let drawn = all_drawn d (ap complete same ∙ c.requires.whole) in
     let begun : (sheet d).circuit ≡ (sheet c.args.self).circuit = ap (λ (s : Sheet). s.circuit) same in
-    let reached : AllReached (sheet d).circuit = subst AllReached (sym begun) c.requires.reached in (
-      d.table,
-      (
-        d.list,
-        (
-          d.few_inputs,
-          (
-            omega arith,
-            (
-              omega arith,
-              (
-                d.fan_in,
-                (
-                  subst (λ n. every (legal (d.inputs + n)) (gates_of d.drawn d.rows) ≡ true) drawn d.wired,
-                  (
-                    subst (λ n. on_lines (d.inputs + n) (take d.named d.ends) ≡ true) drawn d.ends_on_lines,
-                    (
-                      λ k below. ∣ reached (d.inputs + 1 + k) (omega arith) (omega (arith, drawn_is d)) ∣₁,
-                      (
-                        λ k below e. ∣ subst (λ x. Looped x (d.inputs + 1 + k)) (sym begun) (c.mark-loops.ensures.marked_looped k below e) ∣₁,
-                        (
-                          λ k below walk. c.mark-loops.ensures.looped_marked k below (subst (λ x. Looped x (d.inputs + 1 + k)) begun walk),
-                          tt,
-                        ),
-                      ),
-                    ),
-                  ),
-                ),
-              ),
-            ),
-          ),
-        ),
-      ),
-    )
+    let reached : AllReached (sheet d).circuit = subst AllReached (sym begun) c.requires.reached in
+    record {
+      table = d.table;
+      list = d.list;
+      few_inputs = d.few_inputs;
+      few_gates = omega arith;
+      few_outputs = omega arith;
+      fan_in = d.fan_in;
+      wired = subst (λ n. every (legal (d.inputs + n)) (gates_of d.drawn d.rows) ≡ true) drawn d.wired;
+      ends_on_lines = subst (λ n. on_lines (d.inputs + n) (take d.named d.ends) ≡ true) drawn d.ends_on_lines;
+      reached = λ k below. ∣ reached (d.inputs + 1 + k) (omega arith) (omega (arith, drawn_is d)) ∣₁;
+      marked_looped = λ k below e. ∣ subst (λ x. Looped x (d.inputs + 1 + k)) (sym begun) (c.mark_loops.ensures.marked_looped k below e) ∣₁;
+      looped_marked = λ k below walk. c.mark_loops.ensures.looped_marked k below (subst (λ x. Looped x (d.inputs + 1 + k)) begun walk);
+    }
 
 pub returns : goal.returns
-returns c = ap (λ (s : Sheet). s.circuit) c.mark-loops.ensures.same
+returns c = ap (λ (s : Sheet). s.circuit) c.mark_loops.ensures.same

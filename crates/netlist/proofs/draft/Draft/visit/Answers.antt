@@ -20,11 +20,11 @@ read_at d n k ks e within = record { place = k; within = subst (λ l. k < length
 on_table : (d : Draft) (n m : ℕ) → Reads (sheet d).circuit n m → m < 1025
 on_table d n m read = let b = read_bounds (sheet d).circuit (d.inputs + d.gates) n m d.wired read in omega arith
 
-pub returns-then-in-range : goal.returns-then-in-range
-returns-then-in-range c =
+pub returns-then-in_range : goal.returns-then-in_range
+returns-then-in_range c =
     let d = c.args.self.now in
     let read = read_at c.args.self.now c.args.line c.loop-read.read-index _ c.reads-read-items.ensures c.loop-read-test.true in
-    let inside = bounds c.args.first c.args.last _ (sym c.if-in-range.ensures) in
+    let inside = bounds c.args.first c.args.last _ (sym c.if-in_range.ensures) in
     record {
       leads = λ _. record { from = _; not_before = inside.0; not_after = inside.1; walk = further (sheet d).circuit _ c.args.line _ c.requires.upstream read };
       sound = λ e. absurd (true≢false e);
@@ -50,6 +50,6 @@ loop-read-preserved c =
     let at : get_or (reads (sheet d).circuit c.args.line) i 0 ≡ m = ap (λ l. get_or l i 0) (sym c.reads-read-items.ensures) in
     let Then : Search → Type 0 = Visiting (sheet d).circuit c.args.first c.args.last c.args.line c.args.search.now (i + 1) in
     elim c.if-not-search-read.branch [
-      | then-not-search-read w ↦ subst Then (sym (w.search-is ∙ w.mark.ensures)) (visit_marked (sheet d).circuit c.args.first c.args.last c.args.line c.args.search.now c.loop-read.search i m at c.loop-read.invariant c.requires.sound.some (on_table d c.args.line m read) w.if-not-search-read.true (sym c.if-in-range.ensures) (further (sheet d).circuit _ c.args.line m c.requires.upstream read))
+      | then-not-search-read w ↦ subst Then (sym (w.search-is ∙ w.mark.ensures)) (visit_marked (sheet d).circuit c.args.first c.args.last c.args.line c.args.search.now c.loop-read.search i m at c.loop-read.invariant c.requires.sound.some (on_table d c.args.line m read) w.if-not-search-read.true (sym c.if-in_range.ensures) (further (sheet d).circuit _ c.args.line m c.requires.upstream read))
       | else-not-search-read w ↦ subst Then (sym w.search-is) (visit_seen (sheet d).circuit c.args.first c.args.last c.args.line c.args.search.now c.loop-read.search i m at c.loop-read.invariant w.if-not-search-read.false)
     ]

@@ -5,8 +5,8 @@ use Rattle.netlist.proofs.row.GateRow.new.Goals as goal
 
 pub returns : goal.returns
 returns c =
-    let copied = c.copy-from-slice.ensures.after in
+    let copied = c.copy_from_slice.ensures.after in
     record {
       gate = ap (λ l. record { kind = c.args.kind; delay = c.args.delay; reads = l }) (take_at _ _ _ (ap length copied) ∙ copied);
-      fan-in = c.requires;
+      fan_in = c.requires;
     }

@@ -15,7 +15,7 @@ use Rattle.deck.specs.declared.reader.DeckReader.{DeckReader}
 use Rattle.deck.proofs.Letters.{letter_of, none_empty, wrong_letter, other_byte, by_letter}
 use Rattle.deck.proofs.Readers.{few_records, reader_expects_input, reader_expects_gate, reader_expects_output, reader_expects_end}
 use Rattle.deck.proofs.reader.DeckReader.take_record.Goals as goal
-use Rattle.deck.proofs.reader.DeckReader.take_record.Goals.{in_default-2-via-in-Header·+in_default·, in_default-2-via-in-Inputs·+in_default·, in_default-2-via-in-Gates·+in_default·, in_default-2-via-in-Outputs·+in_default·, in_default-2-via-in-End·+in_default·, in_default-2-via-in-Done·}
+use Rattle.deck.proofs.reader.DeckReader.take_record.Goals.{in_default-2-via-in-Header+in_default, in_default-2-via-in-Inputs+in_default, in_default-2-via-in-Gates+in_default, in_default-2-via-in-Outputs+in_default, in_default-2-via-in-End+in_default, in_default-2-via-in_default}
 
 -- the letter that each phase expects
 header_letter : (d : DeckReader) → d.phase ≡ Header → letter_of (expected (progress_of d)) ≡ letter 78
@@ -92,10 +92,10 @@ returns-in_default-2 c =
     let f = c.fault.result in
     let is = ap told c.fault.ensures in
     elim c.in_default-2.branch [
-      | in_default-2-via-in-Header·+in_default· w ↦ let p : d.phase ≡ Header = search rules in let o : get_or bytes 0 0 ≡ 78 → ⊥ = search rules in (refused d bytes 78 _ f (header_letter d p) o is, refl)
-      | in_default-2-via-in-Inputs·+in_default· w ↦ let p : d.phase ≡ Inputs = search rules in let o : get_or bytes 0 0 ≡ 73 → ⊥ = search rules in (refused d bytes 73 _ f (input_letter d p) o is, refl)
-      | in_default-2-via-in-Gates·+in_default· w ↦ let p : d.phase ≡ Gates = search rules in let o : get_or bytes 0 0 ≡ 71 → ⊥ = search rules in (refused d bytes 71 _ f (gate_letter d p) o is, refl)
-      | in_default-2-via-in-Outputs·+in_default· w ↦ let p : d.phase ≡ Outputs = search rules in let o : get_or bytes 0 0 ≡ 79 → ⊥ = search rules in (refused d bytes 79 _ f (output_letter d p) o is, refl)
-      | in_default-2-via-in-End·+in_default· w ↦ let p : d.phase ≡ End = search rules in let o : get_or bytes 0 0 ≡ 69 → ⊥ = search rules in (refused d bytes 69 _ f (end_letter d p) o is, refl)
-      | in_default-2-via-in-Done· w ↦ let p : d.phase ≡ Done = search rules in (wrong_letter (expected (progress_of d)) bytes _ _ f (λ q. subst (Passes bytes) (done_letter d p) q) (is ∙ ap (λ m. record { number = 2; layer = 82; at = m; column = 1 }) (numbered d)), refl)
+      | in_default-2-via-in-Header+in_default w ↦ let p : d.phase ≡ Header = search rules in let o : get_or bytes 0 0 ≡ 78 → ⊥ = search rules in (refused d bytes 78 _ f (header_letter d p) o is, refl)
+      | in_default-2-via-in-Inputs+in_default w ↦ let p : d.phase ≡ Inputs = search rules in let o : get_or bytes 0 0 ≡ 73 → ⊥ = search rules in (refused d bytes 73 _ f (input_letter d p) o is, refl)
+      | in_default-2-via-in-Gates+in_default w ↦ let p : d.phase ≡ Gates = search rules in let o : get_or bytes 0 0 ≡ 71 → ⊥ = search rules in (refused d bytes 71 _ f (gate_letter d p) o is, refl)
+      | in_default-2-via-in-Outputs+in_default w ↦ let p : d.phase ≡ Outputs = search rules in let o : get_or bytes 0 0 ≡ 79 → ⊥ = search rules in (refused d bytes 79 _ f (output_letter d p) o is, refl)
+      | in_default-2-via-in-End+in_default w ↦ let p : d.phase ≡ End = search rules in let o : get_or bytes 0 0 ≡ 69 → ⊥ = search rules in (refused d bytes 69 _ f (end_letter d p) o is, refl)
+      | in_default-2-via-in_default w ↦ let p : d.phase ≡ Done = search rules in (wrong_letter (expected (progress_of d)) bytes _ _ f (λ q. subst (Passes bytes) (done_letter d p) q) (is ∙ ap (λ m. record { number = 2; layer = 82; at = m; column = 1 }) (numbered d)), refl)
     ]

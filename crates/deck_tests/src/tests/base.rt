@@ -21,19 +21,19 @@ pub(super) const BASE: &[u8; 70] =
 // A fault: its number, its layer's letter, its record and its column.
 pub(super) type Told = (u8, char, usize, usize);
 
-// Reads a deck: the bytes that it took, or its fault and the netlist without lines.
+// Reads a deck: the bytes that it took, or its fault and the netlist without lines. A failure shows the note.
 pub(super) fn check_outcome(
     rt: &impl Abort,
     deck: &[u8],
     expected: Result<usize, Told>,
-) -> Result<(), Fail> {
+    note: &str,
+) {
     let (answer, netlist) = read_netlist(deck);
     match answer {
-        Ok(used) => assert_eq!(rt; Ok(used), expected),
-        Err(fault) => assert_eq!(rt; Err(told(&fault)), expected),
+        Ok(used) => assert_eq!(rt; Ok(used), expected, "{note}"),
+        Err(fault) => assert_eq!(rt; Err(told(&fault)), expected, "{note}"),
     }
-    assert_eq!(rt; netlist.lines() == 0, expected.is_err());
-    Ok(())
+    assert_eq!(rt; netlist.lines() == 0, expected.is_err(), "{note}");
 }
 
 pub(super) fn told(fault: &Fault) -> Told {

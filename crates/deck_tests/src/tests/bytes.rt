@@ -18,7 +18,7 @@ fn bytes_after_the_end_are_left(rt: HostRuntime) -> Result<(), Fail> {
     for tail in tails {
         let mut deck = BASE.to_vec(rt.alloc())?;
         deck.extend_from_slice(tail)?;
-        check_outcome(&rt, &deck, Ok(70))?;
+        check_outcome(&rt, &deck, Ok(70), "bytes after the end");
     }
     Ok(())
 }
@@ -37,7 +37,7 @@ fn a_deck_cut_short(rt: HostRuntime) -> Result<(), Fail> {
     for (record, first, end) in table {
         for length in first..end {
             let deck = BASE.get(0..length).ok_or("past the deck")?;
-            check_outcome(&rt, deck, Err((1, 'R', record, 1)))?;
+            check_outcome(&rt, deck, Err((1, 'R', record, 1)), "cut short");
         }
     }
     Ok(())
@@ -55,7 +55,7 @@ fn check_put(
         for byte in bytes {
             let mut deck = *BASE;
             *deck.get_mut(at).ok_or("past the deck")? = *byte;
-            check_outcome(rt, &deck, Err(fault))?;
+            check_outcome(rt, &deck, Err(fault), "a byte put in");
         }
     }
     Ok(())

@@ -16,7 +16,7 @@ fn check_refused(
     for (text, number, layer, column) in table {
         let deck = with_record(heap, record, text)?;
         let fault = (*number, *layer, record, *column);
-        check_outcome(rt, &deck, Err(fault)).note(*text)?;
+        check_outcome(rt, &deck, Err(fault), text);
     }
     Ok(())
 }
@@ -230,7 +230,7 @@ fn records_that_are_taken(rt: HostRuntime) -> Result<(), Fail> {
     ];
     for (record, text, expected) in table {
         let deck = with_record(rt.alloc(), record, text)?;
-        check_outcome(&rt, &deck, expected).note(text)?;
+        check_outcome(&rt, &deck, expected, text);
     }
     Ok(())
 }
@@ -281,7 +281,8 @@ fn faults_of_whole_decks(rt: HostRuntime) -> Result<(), Fail> {
         ),
     ];
     for (deck, fault) in table {
-        check_outcome(&rt, deck.as_bytes(), Err(fault)).note(deck)?;
+        check_outcome(&rt, deck.as_bytes(), Err(fault), deck);
     }
-    check_outcome(&rt, BASE, Ok(70))
+    check_outcome(&rt, BASE, Ok(70), "the base deck");
+    Ok(())
 }

@@ -1,5 +1,5 @@
 -- Bytes taken apart at the ends of records, and put together from them.
-use Rattle.std.proofs.Common.{◌≡◌, ℕ, suc, ◌<◌, List, [], ◌∷◌, ◌++◌, length, get_or, take, drop, sym, refl, ap, ◌∙◌, append_assoc, take-append-drop, drop-cons}
+use Rattle.std.proofs.Common.{◌≡◌, ℕ, suc, ◌<◌, List, [], ◌∷◌, ◌++◌, length, get_or, take, drop, sym, ap, ◌∙◌, append_assoc, take-append-drop, drop-cons}
 use Rattle.deck.specs.Rows.{Row, text, spell}
 
 -- a record, its ending and what follows

@@ -7,11 +7,11 @@ use Rattle.netlist.specs.Gates.{Gate, Circuit, nothing}
 use Rattle.netlist.specs.Judging.{AllReached, LowestFree, Judged}
 use Rattle.netlist.specs.Judging.Judged.{missing, free, sound}
 use Rattle.netlist.specs.Walks.{no_gate}
-use Rattle.deck.specs.Closing.{Sound, FreeFault, Free, Refused, unread, unreached, ClosedOutcome, Passed}
+use Rattle.deck.specs.Closing.{Sound, FreeFault, Refused, unread, unreached, ClosedOutcome, Passed}
 use Rattle.deck.specs.Faults.{Told}
-use Rattle.deck.specs.Outcomes.{FirstFault, Deck, Answer, used, fault, answer_of, Outcome}
-use Rattle.deck.specs.Progress.{rows, over, rows_begun}
-use Rattle.deck.specs.Rows.{Row, header, gate, end, input_rows, gate_rows, output_rows}
+use Rattle.deck.specs.Outcomes.{Deck, Answer, used, fault, answer_of, Outcome}
+use Rattle.deck.specs.Progress.{rows, over}
+use Rattle.deck.specs.Rows.{gate, end, input_rows, gate_rows, output_rows}
 use Rattle.deck.specs.declared.fault.Fault.{Fault}
 use Rattle.deck.proofs.Taking.{length-input_rows, length-gate_rows}
 use Rattle.deck.proofs.Unique.{deck_no_fault, outcome_unique}

@@ -1,5 +1,5 @@
 -- The columns of a record, cut from its fields.
-use Rattle.std.proofs.Common.{◌≡◌, ℕ, suc, ◌+◌, ◌-◌, ◌<◌, ◌≤◌, List, ◌∷◌, length, take, drop, sym, refl, ap, ◌∙◌, arith}
+use Rattle.std.proofs.Common.{◌≡◌, ℕ, suc, ◌+◌, ◌-◌, ◌≤◌, List, ◌∷◌, take, drop, sym, ap, ◌∙◌, arith}
 use Rattle.deck.specs.Tests.{columns}
 
 -- fields begin in column 2

@@ -1,5 +1,5 @@
 -- Fields cut from the left: a text whose columns are known is those columns, one after the other.
-use Rattle.std.proofs.Common.{◌≡◌, ℕ, zero, suc, ◌+◌, ◌-◌, ◌*◌, ◌/◌, ◌<◌, ◌≤◌, Bool, true, false, ◌||◌, eqb, List, [], ◌∷◌, ◌++◌, length, get_or, take, drop, Decides, sym, refl, ap, ◌∙◌, subst, ⊎_elim, append-nil, add-one, arith, take-append-drop}
+use Rattle.std.proofs.Common.{◌≡◌, ℕ, zero, suc, ◌+◌, ◌-◌, ◌*◌, ◌/◌, ◌<◌, ◌≤◌, true, false, eqb, List, [], ◌∷◌, ◌++◌, length, get_or, take, drop, Decides, sym, refl, ap, ◌∙◌, subst, ⊎_elim, append-nil, add-one, arith, take-append-drop}
 use Rattle.std.specs.List.{flat_map, HoldsAt}
 use Rattle.std.proofs.lemmas.List.{drop-drop, drop_all, take_more, flat_map_more, append_assoc}
 use Rattle.std.proofs.lemmas.Bool.{eqb-true, or_cases, false≢true}

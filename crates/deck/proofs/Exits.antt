@@ -1,5 +1,5 @@
 -- A fault that a layer passes on is the fault that it got.
-use Rattle.std.proofs.Common.{◌≡◌, IsErrAnd, Ok, Err, Result, sym, subst, MatchResult}
+use Rattle.std.proofs.Common.{◌≡◌, IsErrAnd, Result, sym, subst, MatchResult}
 use Rattle.std.proofs.lemmas.Result.{err_from_is_err_and}
 
 pub carried : {T E : Type 0} (r : Result T E) (f : E) (P : T → Type 0) (Q : E → Type 0) → IsErrAnd r (λ y. y ≡ f) → Q f → MatchResult r P Q

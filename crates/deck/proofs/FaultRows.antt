@@ -1,8 +1,8 @@
 -- The row of a fault is written field by field over a row of blanks.
-use Rattle.std.proofs.Common.{◌≡◌, ℕ, ◌+◌, ◌≤◌, Bool, true, false, cond, leb, List, [], ◌∷◌, ◌++◌, length, take, drop, set, replicate, decimal, Decides, sym, refl, ap, ◌∙◌, subst, append_assoc, arith}
+use Rattle.std.proofs.Common.{◌≡◌, ℕ, ◌≤◌, Bool, true, false, cond, leb, List, [], ◌∷◌, ◌++◌, length, take, drop, set, replicate, decimal, Decides, sym, refl, ap, ◌∙◌, subst, append_assoc, arith}
 use lib.ListN.{length-replicate}
 use Rattle.std.proofs.lemmas.List.{take_at, drop_at, set_at, length-append}
-use Rattle.std.proofs.lemmas.Bool.{leb-true, le-leb, cond-true, cond-false, cases_Bool, both_ways, false≢true}
+use Rattle.std.proofs.lemmas.Bool.{leb-true, le-leb, cond-true, cond-false, false≢true}
 use Rattle.columns.specs.Spelling.{spelled}
 use Rattle.columns.proofs.Spelled.{length-spelled_fit}
 use Rattle.deck.specs.Faults.{in_columns}

@@ -1,13 +1,12 @@
 -- A number in columns: what a field means, and what the tests of a field say.
-use Rattle.std.proofs.Common.{◌≡◌, ℕ, ◌+◌, ◌-◌, ◌^◌, ◌<◌, ◌≤◌, List, ◌∷◌, ◌++◌, length, take, drop, replicate, decimal, sym, ap, ◌∙◌, subst, le_trans, lt_of_lt_of_le, arith, lit<, lit≤}
+use Rattle.std.proofs.Common.{◌≡◌, ℕ, ◌+◌, ◌-◌, ◌^◌, ◌<◌, ◌≤◌, List, ◌∷◌, length, drop, replicate, decimal, sym, ap, ◌∙◌, subst, le_trans, lt_of_lt_of_le, arith, lit<, lit≤}
 use native.Mathlib.Nat.{pow-le-pow_right}
-use Rattle.std.specs.Str.Parse.{digits_value, AllDigits}
 use Rattle.std.proofs.lemmas.Fmt.{decimal_is_IsNumeral}
 use Rattle.std.proofs.lemmas.Int.Digits.{digits_value-lt}
 use Rattle.std.proofs.lemmas.List.{length-append, length-take-le, length-drop}
 use Rattle.columns.specs.Spelling.{spelled, Means}
 use Rattle.columns.specs.declared.Field.{Field}
-use Rattle.columns.specs.declared.Field.TheVariants.{Number, Blank, Unreadable}
+use Rattle.columns.specs.declared.Field.TheVariants.{Number}
 use Rattle.columns.proofs.Spelled.{means_one, spelled_injective}
 use Rattle.deck.specs.Tests.{columns, Shows}
 

@@ -1,12 +1,12 @@
 -- What each phase says of a draft, which row is expected in it, and which phase comes after.
-use Rattle.std.proofs.Common.{◌≡◌, ℕ, suc, ◌+◌, ◌<◌, ◌≤◌, Bool, true, false, cond, ◌&&◌, eqb, ltb, length, sym, refl, ap, ◌∙◌, arith}
-use Rattle.std.proofs.lemmas.Bool.{and_parts, and_from, ltb-true, ltb-false, eqb-true, lt-ltb, le-ltb, eq-eqb}
+use Rattle.std.proofs.Common.{◌≡◌, ℕ, suc, ◌+◌, ◌<◌, ◌≤◌, true, eqb, ltb, length, arith}
+use Rattle.std.proofs.lemmas.Bool.{and_parts, and_from, ltb-true, eqb-true, lt-ltb, le-ltb, eq-eqb}
 use Rattle.netlist.specs.Drafts.{Sheet, lines, takes_gate, takes_output, complete}
 use Rattle.deck.specs.Phases as phases
 use Rattle.deck.specs.Phases.{agrees}
 use Rattle.deck.specs.Progress.{going, expected, input_next, gate_next, output_next, end_next}
-use Rattle.deck.specs.declared.phase.Phase.TheVariants.{Inputs, Gates, Outputs, End, Done}
-use Rattle.deck.proofs.Following.{Limited, limited}
+use Rattle.deck.specs.declared.phase.Phase.TheVariants.{Inputs, Gates, Outputs, End}
+use Rattle.deck.proofs.Following.{limited}
 
 -- while inputs are told: no gate and no output yet
 pub record Telling (s : Sheet) (told : ℕ) : Type 0 where

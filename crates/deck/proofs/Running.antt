@@ -5,7 +5,7 @@ use Rattle.netlist.specs.Drafts.{Sheet, sheet, dead}
 use Rattle.deck.specs.Faults.{Told}
 use Rattle.deck.specs.Outcomes.{Fails, FirstFault, Deck}
 use Rattle.deck.specs.Phases.{progress}
-use Rattle.deck.specs.Progress.{Progress, blank, going, over, rows, Legal, Whole, deck_text}
+use Rattle.deck.specs.Progress.{Progress, blank, going, over, rows, Legal}
 use Rattle.deck.specs.Readers.{progress_of, TookFrom, ReadAll, Unfinished, finished}
 use Rattle.deck.specs.Rows.{Row, row_of, text, spell}
 use Rattle.deck.specs.declared.entry.Taken.{Taken}

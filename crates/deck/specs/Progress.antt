@@ -1,5 +1,5 @@
 -- How far a deck is read: the rows that it has so far, and which row is expected next.
-use Rattle.std.specs.Prelude.{◌≡◌, ℕ, suc, ◌+◌, ◌<◌, ◌≤◌, Bool, true, cond, List, [], ◌∷◌, ◌++◌, length, nat_lt}
+use Rattle.std.specs.Prelude.{◌≡◌, ℕ, suc, ◌+◌, ◌<◌, ◌≤◌, true, cond, List, [], ◌∷◌, ◌++◌, length, nat_lt}
 use Rattle.netlist.specs.Drafts.{Sheet, within_limits, lines, takes_gate, takes_output, complete}
 use Rattle.netlist.specs.Gates.{every, legal, on_lines}
 use Rattle.deck.specs.Rows.{Row, header, end, input_rows, gate_rows, output_rows, spell}

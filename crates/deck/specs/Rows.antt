@@ -1,11 +1,10 @@
 -- The rows of a deck and how they are spelled in columns.
-use Rattle.std.specs.Prelude.{ℕ, zero, suc, ◌+◌, List, [], ◌∷◌, ◌++◌, map, codes}
+use Rattle.std.specs.Prelude.{ℕ, zero, suc, List, [], ◌∷◌, ◌++◌, map, codes}
 use Rattle.columns.specs.Spelling.{spelled}
 use Rattle.std.specs.List.{flat_map}
 use Rattle.netlist.specs.declared.kind.Kind.{Kind}
 use Rattle.netlist.specs.declared.kind.Kind.TheVariants.{Buf, Not, And, Or, Xor, Nand, Nor, Xnor}
 use Rattle.netlist.specs.Gates.{Gate}
-use Rattle.netlist.specs.Drafts.{Sheet}
 use Rattle.netlist.specs.Rows.{gate_of}
 use Rattle.deck.specs.declared.entry.Entry.{Entry}
 use Rattle.deck.specs.declared.entry.Entry.TheVariants as entry

@@ -5,7 +5,7 @@ use Rattle.netlist.specs.declared.closed.Netlist.{Netlist}
 use Rattle.netlist.specs.Closed.{circuit}
 use Rattle.netlist.specs.Gates.{Circuit}
 use Rattle.netlist.specs.Rows.{no_row}
-use Rattle.netlist.specs.Walks.{reads, Reads, Walk, Looped}
+use Rattle.netlist.specs.Walks.{reads, Walk, Looped}
 use Rattle.netlist.specs.declared.row.GateRow.{GateRow}
 use Rattle.netlist.specs.Walks.Walk.{step, on}
 use Rattle.netlist.proofs.Reading.{reads_at_input, reads_past}

@@ -1,5 +1,5 @@
 -- The lines that a line of a draft reads, from the draft's rows.
-use Rattle.std.proofs.Common.{◌≡◌, ℕ, suc, ◌+◌, ◌-◌, ◌<◌, ◌≤◌, true, cond, ◌&&◌, ltb, ◌⊎◌, List, [], length, get_or, take, sym, refl, ap, ◌∙◌, inl, inr, ⊎_elim, arith}
+use Rattle.std.proofs.Common.{◌≡◌, ℕ, suc, ◌+◌, ◌-◌, ◌<◌, ◌≤◌, true, ◌&&◌, ltb, ◌⊎◌, [], length, get_or, take, sym, ap, ◌∙◌, inl, inr, ⊎_elim, arith}
 use Rattle.std.proofs.lemmas.List.{get_or_past}
 use Rattle.std.proofs.lemmas.Bool.{lt-ltb, le-ltb, cond-true, cond-false, cases_lt, and_parts}
 use Rattle.netlist.specs.declared.draft.Draft.{Draft}
@@ -7,7 +7,6 @@ use Rattle.netlist.specs.Drafts.{sheet}
 use Rattle.netlist.specs.Gates.{Gate, Circuit, every, legal, in_range, on_lines, delay_fits}
 use Rattle.netlist.specs.Rows.{no_row, gates_of}
 use Rattle.netlist.specs.Walks.{reads, no_gate, Reads}
-use Rattle.netlist.proofs.Sheets.{drawn_is}
 use Rattle.netlist.proofs.Tables.{gate_of_place, every_at}
 use Rattle.netlist.proofs.Ranges.{bounds}
 

@@ -1,9 +1,8 @@
 -- What a draft's own numbers say of its sheet.
-use Rattle.std.proofs.Common.{◌≡◌, ℕ, ◌+◌, ◌≤◌, Bool, ◌&&◌, eqb, ltb, length, take, ap, ◌∙◌, arith}
+use Rattle.std.proofs.Common.{◌≡◌, ◌≤◌, ◌&&◌, eqb, ltb, length, ap, ◌∙◌, arith}
 use Rattle.std.proofs.lemmas.List.{length-take-le}
 use Rattle.netlist.specs.declared.draft.Draft.{Draft}
 use Rattle.netlist.specs.Drafts.{sheet, takes_gate, takes_output, complete}
-use Rattle.netlist.specs.Rows.{gates_of}
 use Rattle.netlist.proofs.Tables.{length-gates_of}
 
 pub drawn_is : (d : Draft) → length (sheet d).circuit.gates ≡ d.drawn

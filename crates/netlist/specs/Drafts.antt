@@ -1,7 +1,6 @@
 -- A draft as its reader sees it, and what opening and additions answer.
-use Rattle.std.specs.Prelude.{ℕ, ◌+◌, Bool, true, false, cond, ◌&&◌, List, [], ◌∷◌, ◌++◌, length, ◌==◌, nat_lt}
+use Rattle.std.specs.Prelude.{ℕ, ◌+◌, Bool, cond, ◌&&◌, List, [], ◌∷◌, ◌++◌, length, ◌==◌, nat_lt}
 use Rattle.netlist.specs.declared.draft.Draft.{Draft}
-use Rattle.netlist.specs.declared.kind.Kind.{Kind}
 use Rattle.netlist.specs.Gates.{Gate, Circuit, nothing, in_range, fits, delay_fits, on_lines}
 use Rattle.netlist.specs.Rows.{circuit_of}
 

@@ -1,5 +1,5 @@
 -- What a search has found so far; it serves the contracts of the search's own functions.
-use Rattle.std.specs.Prelude.{◌≡◌, ℕ, ◌+◌, ◌<◌, ◌≤◌, Bool, true, false, not, ◌⊎◌, List, length, count_by, slice_index, slice_index_or, slice_set}
+use Rattle.std.specs.Prelude.{◌≡◌, ℕ, ◌+◌, ◌<◌, ◌≤◌, Bool, true, false, not, ◌⊎◌, length, count_by, slice_index, slice_index_or, slice_set}
 use Rattle.netlist.specs.declared.draft.search.Search.{Search}
 use Rattle.netlist.specs.Gates.{Circuit, in_range}
 use Rattle.netlist.specs.Walks.{Reads, Walk}

@@ -1,5 +1,5 @@
-use Rattle.std.proofs.Common.{◌≡◌, [], ◌∷◌, ◌++◌, length, sym, refl, ap, ◌∙◌, subst}
-use Rattle.deck.specs.Faults.{in_columns, layer_letter}
+use Rattle.std.proofs.Common.{◌≡◌, [], ◌∷◌, ◌++◌, length, refl, ap, ◌∙◌}
+use Rattle.deck.specs.Faults.{in_columns}
 use Rattle.deck.proofs.FaultRows.{in_columns_is, length-in_columns, second_blank, third_blank, room_for_second, room_for_third, row_is}
 use Rattle.deck.proofs.fault.Fault.row.Goals as goal
 

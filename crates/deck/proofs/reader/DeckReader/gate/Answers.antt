@@ -4,7 +4,7 @@ use Rattle.netlist.specs.Drafts.{sheet, lines}
 use Rattle.netlist.specs.declared.row.GateRow.{GateRow}
 use Rattle.netlist.specs.Gates.{Gate, legal}
 use Rattle.netlist.specs.Rows.{gate_of}
-use Rattle.deck.specs.Progress.{Expected, gate_next, rows}
+use Rattle.deck.specs.Progress.{gate_next, rows}
 use Rattle.deck.specs.Readers.{progress_of}
 use Rattle.deck.specs.Records.{whole, Failed, fields_tests}
 use Rattle.deck.specs.Rows.{gate}

@@ -1,4 +1,4 @@
-use Rattle.std.proofs.Common.{◌≡◌, ◌+◌, length, sym, refl, ap, ◌∙◌, subst, inl, inr, arith}
+use Rattle.std.proofs.Common.{◌+◌, length, sym, refl, ◌∙◌, subst, inl, inr, arith}
 use Rattle.deck.specs.Records.{whole, Failed, fields_tests}
 use Rattle.deck.specs.Rows.{input}
 use Rattle.deck.proofs.Exits.{carried}

@@ -1,4 +1,4 @@
-use Rattle.std.proofs.Common.{◌≡◌, ℕ, suc, ◌+◌, ◌-◌, ◌<◌, List, ◌∷◌, ◌++◌, length, get_or, take, drop, sym, refl, ap, ◌∙◌, subst, arith}
+use Rattle.std.proofs.Common.{◌≡◌, ℕ, suc, ◌+◌, ◌<◌, List, ◌∷◌, ◌++◌, length, get_or, take, drop, ap, ◌∙◌, subst, arith}
 use native.Mathlib.Nat.{sub-zero}
 use Rattle.std.proofs.lemmas.List.{length-take-le}
 use Rattle.deck.specs.Faults.{told}
@@ -7,7 +7,6 @@ use Rattle.deck.specs.Outcomes.Fails.{failed}
 use Rattle.deck.specs.Progress.{Progress, expected, rows}
 use Rattle.deck.specs.Readers.{progress_of, Took, TookFrom}
 use Rattle.deck.specs.Records.{Failed}
-use Rattle.deck.specs.Rows.{row_of, text}
 use Rattle.deck.specs.Tests.{tests}
 use Rattle.deck.specs.declared.entry.Entry.{Entry}
 use Rattle.deck.specs.declared.fault.Fault.{Fault}

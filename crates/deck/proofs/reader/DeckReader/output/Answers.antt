@@ -1,4 +1,4 @@
-use Rattle.std.proofs.Common.{◌≡◌, true, sym, refl, ap, ◌∙◌, subst, inl, inr, arith}
+use Rattle.std.proofs.Common.{◌≡◌, true, refl, subst, inl, inr, arith}
 use Rattle.netlist.specs.Gates.{in_range}
 use Rattle.deck.specs.Rows.{output}
 use Rattle.deck.proofs.Readers.{few_records, counted_more, output_added, output_stands}

@@ -1,4 +1,4 @@
-use Rattle.std.proofs.Common.{◌≡◌, ℕ, suc, ◌+◌, ◌<◌, List, [], ◌∷◌, length, get_or, sym, refl, ap, ◌∙◌, subst, add-one, arith, rules}
+use Rattle.std.proofs.Common.{◌≡◌, ℕ, suc, ◌+◌, ◌<◌, List, [], length, get_or, refl, ap, ◌∙◌, subst, add-one, arith, rules}
 use Rattle.std.proofs.lemmas.List.{nil_from_length}
 use Rattle.std.proofs.lemmas.Slice.{first_rest}
 use Rattle.deck.specs.Faults.{told}
@@ -9,7 +9,6 @@ use Rattle.deck.specs.Readers.{progress_of}
 use Rattle.deck.specs.Tests.{letter, out_of_order, Passes, tests}
 use Rattle.deck.specs.Records.{Failed}
 use Rattle.deck.specs.declared.fault.Fault.{Fault}
-use Rattle.deck.specs.declared.phase.Phase.{Phase}
 use Rattle.deck.specs.declared.phase.Phase.TheVariants.{Header, Inputs, Gates, Outputs, End, Done}
 use Rattle.deck.specs.declared.reader.DeckReader.{DeckReader}
 use Rattle.deck.proofs.Letters.{letter_of, none_empty, wrong_letter, other_byte, by_letter}

@@ -1,9 +1,8 @@
-use Rattle.std.proofs.Common.{◌≡◌, ℕ, ◌+◌, ◌≤◌, List, [], ◌++◌, length, drop, ap, ◌∙◌, arith}
+use Rattle.std.proofs.Common.{◌≡◌, ◌++◌, drop, ap, ◌∙◌, arith}
 use Rattle.std.proofs.lemmas.Bool.{and_from}
 use Rattle.columns.specs.Spelling.{spelled}
 use Rattle.netlist.proofs.Ranges.{inside}
-use Rattle.deck.specs.Records.{whole}
-use Rattle.deck.specs.Tests.{Test, long, number_tests}
+use Rattle.deck.specs.Tests.{long, number_tests}
 use Rattle.deck.proofs.Cutting.{cut, cut_last, has_one}
 use Rattle.deck.proofs.Exits.{carried}
 use Rattle.deck.proofs.Failing.{failed_one, failed_after, failed_left, failed_right, number_pass}

@@ -1,4 +1,4 @@
-use Rattle.std.proofs.Common.{◌≡◌, suc, eqb, length, sym, ap, ◌∙◌, add-one}
+use Rattle.std.proofs.Common.{eqb, sym, ap, ◌∙◌, add-one}
 use Rattle.std.proofs.lemmas.List.Elements.{contains_decides}
 use Rattle.std.proofs.lemmas.Bool.{both_ways}
 use Rattle.std.proofs.lemmas.Bool.Decides.{same_from_decides, Decides-eqb}

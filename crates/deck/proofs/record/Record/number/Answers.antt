@@ -1,6 +1,6 @@
-use Rattle.std.proofs.Common.{◌≡◌, refl, ap, inl, inr, ⊎_elim, arith}
+use Rattle.std.proofs.Common.{refl, ap, inl, inr, ⊎_elim, arith}
 use Rattle.deck.specs.Faults.{told}
-use Rattle.deck.specs.Records.{whole, Failed}
+use Rattle.deck.specs.Records.{whole}
 use Rattle.deck.specs.Tests.{figure, range}
 use Rattle.deck.proofs.Exits.{carried}
 use Rattle.deck.proofs.Numbers.{shows_one}

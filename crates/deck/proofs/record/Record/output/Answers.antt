@@ -1,4 +1,4 @@
-use Rattle.std.proofs.Common.{◌≡◌, arith}
+use Rattle.std.proofs.Common.{arith}
 use Rattle.netlist.proofs.Ranges.{inside}
 use Rattle.deck.specs.Tests.{long}
 use Rattle.deck.proofs.Cutting.{cut_last, has_one}

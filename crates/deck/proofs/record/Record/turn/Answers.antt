@@ -1,6 +1,6 @@
-use Rattle.std.proofs.Common.{◌≡◌, refl, ap, subst, inl, inr, arith, lit≤}
+use Rattle.std.proofs.Common.{refl, ap, inl, inr, lit≤}
 use Rattle.deck.specs.Faults.{told}
-use Rattle.deck.specs.Records.{whole, Failed}
+use Rattle.deck.specs.Records.{whole}
 use Rattle.deck.specs.Tests.{figure, turn}
 use Rattle.deck.proofs.Exits.{carried}
 use Rattle.deck.proofs.Numbers.{shows_one}

@@ -1,5 +1,4 @@
-use Rattle.std.proofs.Common.{◌≡◌, ℕ, suc, ◌+◌, ◌≤◌, Bool, cond, get_or, sym, ap, ◌∙◌, add-one, arith}
-use Rattle.netlist.specs.declared.row.GateRow.{GateRow}
+use Rattle.std.proofs.Common.{◌≡◌, ℕ, ◌+◌, Bool, cond, get_or, sym, ap, ◌∙◌, add-one, arith}
 use Rattle.netlist.specs.Closed.{count_below}
 use Rattle.netlist.specs.Rows.{no_row}
 use Rattle.netlist.proofs.Closing.{gates_are}

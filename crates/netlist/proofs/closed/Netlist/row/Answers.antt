@@ -1,4 +1,4 @@
-use Rattle.std.proofs.Common.{◌≡◌, ◌+◌, ◌-◌, ◌<◌, ◌≤◌, length, sym, ap, subst, inl, inr, ⊎_elim, arith}
+use Rattle.std.proofs.Common.{◌≡◌, ◌+◌, ◌-◌, ◌<◌, ◌≤◌, length, sym, subst, inl, inr, ⊎_elim, arith}
 use Rattle.netlist.specs.Closed.{circuit}
 use Rattle.netlist.specs.Walks.{Looped}
 use Rattle.netlist.proofs.Closing.{gates_are}

@@ -1,4 +1,4 @@
-use Rattle.std.proofs.Common.{◌≤◌, refl, zero-le, arith}
+use Rattle.std.proofs.Common.{◌≤◌, refl, arith}
 use lib.ListN.{length-replicate}
 use Rattle.netlist.specs.Rows.{empty, no_row}
 use Rattle.netlist.proofs.Tables.{all_rows_repeated}

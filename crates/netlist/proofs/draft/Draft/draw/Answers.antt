@@ -1,6 +1,5 @@
-use Rattle.std.proofs.Common.{◌≡◌, ◌+◌, ◌<◌, ◌≤◌, length, take, ap, ◌∙◌, arith, length-set, rules}
-use Rattle.netlist.specs.declared.row.GateRow.{GateRow}
-use Rattle.netlist.specs.Gates.{every, legal}
+use Rattle.std.proofs.Common.{◌+◌, ◌<◌, ◌≤◌, length, take, ap, ◌∙◌, arith, length-set}
+use Rattle.netlist.specs.Gates.{legal}
 use Rattle.netlist.specs.Rows.{no_row, gate_of, gates_of}
 use Rattle.netlist.proofs.Tables.{all_rows_set, every_push, gates_of_more}
 use Rattle.netlist.proofs.draft.Draft.draw.Goals as goal

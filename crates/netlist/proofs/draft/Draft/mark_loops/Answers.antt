@@ -1,12 +1,12 @@
-use Rattle.std.proofs.Common.{◌≡◌, ℕ, ◌+◌, ◌<◌, ◌≤◌, Bool, true, false, List, length, get_or, set, sym, refl, ap, ◌∙◌, subst, ⊎_elim, arith, length-set}
+use Rattle.std.proofs.Common.{◌≡◌, ℕ, ◌+◌, ◌<◌, ◌≤◌, Bool, true, List, length, get_or, set, sym, refl, ap, ◌∙◌, subst, ⊎_elim, arith, length-set}
 use Rattle.std.proofs.lemmas.Bool.{cases_Bool}
 use Rattle.netlist.specs.declared.draft.Draft.{Draft}
 use Rattle.netlist.specs.declared.row.GateRow.{GateRow}
 use Rattle.netlist.specs.Drafts.{Sheet, sheet}
-use Rattle.netlist.specs.Gates.{Circuit, every, legal}
-use Rattle.netlist.specs.Rows.{no_row, gate_of, gates_of, circuit_of}
+use Rattle.netlist.specs.Gates.{Circuit}
+use Rattle.netlist.specs.Rows.{no_row, gates_of}
 use Rattle.netlist.specs.Walks.{Walk, Leads, Looped}
-use Rattle.netlist.proofs.Closing.{Marks, marks_none, marks_more}
+use Rattle.netlist.proofs.Closing.{marks_more}
 use Rattle.netlist.proofs.Tables.{all_rows_set, gates_of_same}
 use Rattle.netlist.proofs.draft.Draft.mark_loops.Goals as goal
 

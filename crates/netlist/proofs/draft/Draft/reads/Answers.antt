@@ -1,4 +1,4 @@
-use Rattle.std.proofs.Common.{◌≡◌, ◌-◌, ◌≤◌, get_or, take, sym, ap, ◌∙◌, ⊎_elim, arith, rules}
+use Rattle.std.proofs.Common.{◌-◌, get_or, take, sym, ap, ◌∙◌, ⊎_elim, arith, rules}
 use native.Mathlib.Nat.{sub-zero}
 use Rattle.netlist.specs.Drafts.{sheet}
 use Rattle.netlist.specs.Rows.{no_row}

@@ -1,8 +1,8 @@
-use Rattle.std.proofs.Common.{◌≡◌, ℕ, ◌+◌, ◌<◌, true, ◌&&◌, eqb, ltb, take, sym, ap, ◌∙◌, subst, arith}
+use Rattle.std.proofs.Common.{◌≡◌, ◌+◌, true, eqb, ltb, take, sym, ap, ◌∙◌, subst, arith}
 use Rattle.std.proofs.lemmas.Bool.{and_parts, eqb-true}
 use Rattle.netlist.specs.declared.draft.Draft.{Draft}
 use Rattle.netlist.specs.Drafts.{Sheet, sheet, complete}
-use Rattle.netlist.specs.Gates.{Circuit, every, legal, on_lines}
+use Rattle.netlist.specs.Gates.{every, legal, on_lines}
 use Rattle.netlist.specs.Judging.{AllReached}
 use Rattle.netlist.specs.Rows.{gates_of}
 use Rattle.netlist.specs.Walks.{Looped}

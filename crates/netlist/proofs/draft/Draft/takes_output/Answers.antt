@@ -1,4 +1,4 @@
-use Rattle.std.proofs.Common.{◌&&◌, eqb, ltb, sym, ap, ◌∙◌}
+use Rattle.std.proofs.Common.{◌&&◌, ltb, sym, ap, ◌∙◌}
 use Rattle.std.proofs.lemmas.Bool.{eq-eqb, ne_eqb}
 use Rattle.netlist.proofs.Sheets.{takes_output_is}
 use Rattle.netlist.proofs.draft.Draft.takes_output.Goals as goal

@@ -1,15 +1,12 @@
-use Rattle.std.proofs.Common.{◌≡◌, ℕ, ◌+◌, ◌<◌, ◌≤◌, true, false, List, length, get_or, sym, refl, ap, ◌∙◌, subst, ⊎_elim, arith, rules, below_more}
-use Rattle.std.proofs.lemmas.List.{get_or-set_same}
-use Rattle.std.proofs.lemmas.Bool.{true≢false, false≢true}
+use Rattle.std.proofs.Common.{◌≡◌, ℕ, ◌+◌, ◌<◌, List, length, get_or, sym, ap, ◌∙◌, subst, arith}
+use Rattle.std.proofs.lemmas.Bool.{true≢false}
 use Rattle.netlist.specs.declared.draft.Draft.{Draft}
 use Rattle.netlist.specs.declared.draft.search.Search.{Search}
 use Rattle.netlist.specs.Drafts.{sheet}
-use Rattle.netlist.specs.Gates.{in_range}
-use Rattle.netlist.specs.Searches.{Sound, Grows, seen, start, marked, Followed, Upstream}
-use Rattle.netlist.specs.Walks.{reads, Reads, Walk, Leads}
+use Rattle.netlist.specs.Walks.{reads, Reads}
 use Rattle.netlist.proofs.Ranges.{bounds}
 use Rattle.netlist.proofs.Reading.{read_bounds}
-use Rattle.netlist.proofs.Searching.{further, room, Visiting, visit_marked, visit_seen, grows_refl}
+use Rattle.netlist.proofs.Searching.{further, room, Visiting, visit_marked, visit_seen}
 use Rattle.netlist.proofs.draft.Draft.visit.Goals as goal
 use Rattle.netlist.proofs.draft.Draft.visit.Goals.{then-not-search-read, else-not-search-read}
 

@@ -1,6 +1,5 @@
-use Rattle.std.proofs.Common.{◌≡◌, length, ap, ◌∙◌, rules}
+use Rattle.std.proofs.Common.{length, ap, ◌∙◌}
 use Rattle.std.proofs.lemmas.List.{take_at}
-use Rattle.netlist.specs.Gates.{Gate}
 use Rattle.netlist.proofs.row.GateRow.new.Goals as goal
 
 pub returns : goal.returns

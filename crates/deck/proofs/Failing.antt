@@ -4,7 +4,7 @@ use Rattle.std.specs.List.{AllByRecursion as All}
 use Rattle.std.proofs.ByRecursion.{All-append}
 use Rattle.std.proofs.lemmas.Bool.{cases_lt}
 use Rattle.deck.specs.Records.{Failed, Refuted, ReadsShown}
-use Rattle.deck.specs.Tests.{Test, figure, turn, range, Passes, FirstFailed, Shows, reads_tests, number_tests, line_tests}
+use Rattle.deck.specs.Tests.{Test, Passes, FirstFailed, Shows, reads_tests, number_tests, line_tests}
 use Rattle.deck.specs.declared.fault.Fault.{Fault}
 
 pub first_left : (r : List ℕ) (xs ys : List Test) (t : Test) → FirstFailed r xs t → FirstFailed r (xs ++ ys) t
@@ -27,18 +27,11 @@ failed_one r at t ts f bad = record { test = t; first = inl (refl, bad.fails); i
 pub failed_after : (r : List ℕ) (at : ℕ) (t : Test) (ts : List Test) (f : Fault) → Passes r t → Failed r at ts f → Failed r at (t ∷ ts) f
 failed_after r at t ts f pass bad = failed_right r at (t ∷ []) ts f (pass, tt) bad
 
--- with what is passed after them, the tests of a number, and of the line whose turn it is
-pub number_then : {R : Type 0} (r : List ℕ) (column width least most n : ℕ) → Shows r column width n → least ≤ n → n ≤ most → R → Passes r (figure column width) × (Passes r (range column width least most) × R)
-number_then r column width least most n shown low high rest = ((n, shown), ((n, shown, low, high), rest))
-
-pub line_then : {R : Type 0} (r : List ℕ) (column width n : ℕ) → Shows r column width n → R → Passes r (figure column width) × (Passes r (turn column width n) × R)
-line_then r column width n shown rest = ((n, shown), (shown, rest))
-
 pub number_pass : (r : List ℕ) (column width least most n : ℕ) → Shows r column width n → least ≤ n → n ≤ most → All (Passes r) (number_tests column width least most)
-number_pass r column width least most n shown low high = number_then r column width least most n shown low high tt
+number_pass r column width least most n shown low high = ((n, shown), ((n, shown, low, high), tt))
 
 pub line_pass : (r : List ℕ) (column width n : ℕ) → Shows r column width n → All (Passes r) (line_tests column width n)
-line_pass r column width n shown = line_then r column width n shown tt
+line_pass r column width n shown = ((n, shown), (shown, tt))
 
 -- the lines that a gate reads pass their tests, or the first that does not gives the fault
 pub reads_pass : (r : List ℕ) (lines count : ℕ) (ns : List ℕ) → ReadsShown r lines count ns → All (Passes r) (reads_tests lines count)
@@ -46,7 +39,7 @@ reads_pass r lines zero ns shown = tt
 reads_pass r lines (suc k) ns shown =
     let here = shown k (omega arith) in
     All-append (Passes r) (reads_tests lines k) _ (reads_pass r lines k ns (λ i below. shown i (omega arith)))
-    (number_pass r (15 + 4 * k) 4 1 lines (get_or ns k 0) here.0 here.1 here.2)
+    ((get_or ns k 0, here.0), ((get_or ns k 0, here.0, here.1, here.2), tt))
 
 pub reads_failed : (r : List ℕ) (at lines place count : ℕ) (f : Fault) → place < count → All (Passes r) (reads_tests lines place) → Failed r at (number_tests (15 + 4 * place) 4 1 lines) f → Failed r at (reads_tests lines count) f
 reads_failed r at lines place zero f below pass bad = absurd (omega arith)

@@ -10,9 +10,7 @@ use Rattle.netlist.proofs.Ranges.{bounds}
 use Rattle.netlist.proofs.Tables.{every_at}
 use Rattle.deck.specs.Progress.{Expected, gate_next}
 use Rattle.deck.specs.Rows.{Row, gate, text}
-use Rattle.deck.specs.Records.{ReadsShown}
-use Rattle.deck.specs.Tests.{Test, kind_takes, Passes, FirstFailed, tests, reads_tests, reads_count, has}
-use Rattle.deck.proofs.Failing.{number_then, line_then, reads_pass}
+use Rattle.deck.specs.Tests.{Test, figure, turn, range, kind_takes, Shows, Passes, FirstFailed, tests, number_tests, reads_tests, reads_count, has}
 use Rattle.deck.proofs.Following.{Follows, a_header, an_input, a_gate, an_output, an_end, limited}
 use Rattle.deck.proofs.Texts.{Fields, Says, says_text, Gated, gated}
 
@@ -27,6 +25,13 @@ first_failed_one r (v ∷ vs) t u (inl a) (inl b) = a.0 ∙ sym b.0
 first_failed_one r (v ∷ vs) t u (inl a) (inr b) = absurd (a.1 b.0)
 first_failed_one r (v ∷ vs) t u (inr a) (inl b) = absurd (b.1 a.0)
 first_failed_one r (v ∷ vs) t u (inr a) (inr b) = first_failed_one r vs t u a.1 b.1
+
+-- with what is passed after them, the tests of a number, and of the line whose turn it is
+number_passes : {R : Type 0} (r : List ℕ) (c w least most n : ℕ) → Shows r c w n → (least ≤ n) × (n ≤ most) → R → Passes r (figure c w) × (Passes r (range c w least most) × R)
+number_passes r c w least most n shows within rest = ((n, shows), ((n, shows, within.0, within.1), rest))
+
+line_passes : {R : Type 0} (r : List ℕ) (c w n : ℕ) → Shows r c w n → R → Passes r (figure c w) × (Passes r (turn c w n) × R)
+line_passes r c w n shows rest = ((n, shows), (shows, rest))
 
 count_fits : (k : Kind) (n : ℕ) → fits k n ≡ true → (1 ≤ n) × (n ≤ 4)
 count_fits Buf n e = omega (arith, eqb-true n 1 e)
@@ -46,11 +51,11 @@ gate_long (suc (suc (suc zero))) low high = refl
 gate_long (suc (suc (suc (suc zero)))) low high = refl
 gate_long (suc (suc (suc (suc (suc n))))) low high = absurd (omega arith)
 
--- the lines that a gate reads, as its fields show them
-reads_shown : (r : List ℕ) (m : ℕ) (ls : List ℕ) → Fields r 14 ls → on_lines m ls ≡ true → (k : ℕ) → k ≤ length ls → ReadsShown r m k ls
-reads_shown r m ls fields fine k within i below =
-    let inside = bounds 1 m (get_or ls i 0) (every_at (in_range 1 m) ls i 0 fine (omega arith)) in
-    (fields.each i (omega arith), inside.0, inside.1)
+reads_pass : (r : List ℕ) (m : ℕ) (ls : List ℕ) → Fields r 14 ls → on_lines m ls ≡ true → (k : ℕ) → k ≤ length ls → All (Passes r) (reads_tests m k)
+reads_pass r m ls fields fine zero within = tt
+reads_pass r m ls fields fine (suc k) within =
+    All-append (Passes r) (reads_tests m k) (number_tests (15 + 4 * k) 4 1 m) (reads_pass r m ls fields fine k (omega arith))
+    (number_passes r (15 + 4 * k) 4 1 m (get_or ls k 0) (fields.each k within) (bounds 1 m (get_or ls k 0) (every_at (in_range 1 m) ls k 0 fine within)) tt)
 
 gate_passes : (n m : ℕ) (g : Gate) → Gated m g → Says (text (gate n g)) (gate n g) → All (Passes (text (gate n g))) (tests (gate_next n m) (length (text (gate n g))))
 gate_passes n m g parts a =
@@ -62,11 +67,11 @@ gate_passes n m g parts a =
       (_, refl),
       (
         ap (λ n. has n (18 ∷ 22 ∷ 26 ∷ 30 ∷ [])) long ∙ gate_long _ few.0 few.1,
-        line_then t 2 4 n a.1 (
+        line_passes t 2 4 n a.1 (
           (g.kind, a.2),
-          number_then t 10 5 1 65535 g.delay a.3 parts.delayed.0 parts.delayed.1
+          number_passes t 10 5 1 65535 g.delay a.3 parts.delayed
               (All-append (Passes t) (reads_tests m k) (kind_takes k ∷ [])
-              (reads_pass t m k g.reads (reads_shown t m g.reads a.0 parts.on k (omega arith))) ((g.kind, a.2, ap (fits g.kind) count ∙ parts.fitting), tt)),
+              (reads_pass t m g.reads a.0 parts.on k (omega arith)) ((g.kind, a.2, ap (fits g.kind) count ∙ parts.fitting), tt)),
         ),
       ),
     )
@@ -77,15 +82,15 @@ said_passes _ _ (a_header {i} {g} {o} l) a =
       (_, refl),
       (
         ap (λ n. has n (13 ∷ [])) a.long,
-        number_then _ 2 4 1 256 i (a.each 0 (omega arith)) limits.inputs.0 limits.inputs.1
-            (number_then _ 6 4 1 768 g (a.each 1 (omega arith)) limits.gates.0 limits.gates.1
-            (number_then _ 10 4 1 256 o (a.each 2 (omega arith)) limits.outputs.0 limits.outputs.1 tt)),
+        number_passes _ 2 4 1 256 i (a.each 0 (omega arith)) limits.inputs
+            (number_passes _ 6 4 1 768 g (a.each 1 (omega arith)) limits.gates
+            (number_passes _ 10 4 1 256 o (a.each 2 (omega arith)) limits.outputs tt)),
       ),
     )
-said_passes _ _ (an_input {n} l) a = ((_, refl), (ap (λ n. has n (5 ∷ [])) a.long, line_then _ 2 4 n (a.each 0 (omega arith)) tt))
+said_passes _ _ (an_input {n} l) a = ((_, refl), (ap (λ n. has n (5 ∷ [])) a.long, line_passes _ 2 4 n (a.each 0 (omega arith)) tt))
 said_passes _ _ (a_gate {n} {m} {g} k l fine) a = gate_passes n m g (gated m g l fine) a
 said_passes _ _ (an_output {m} {n} l fine) a =
-    ((_, refl), (ap (λ n. has n (5 ∷ [])) a.long, number_then _ 2 4 1 m n (a.each 0 (omega arith)) (bounds 1 m n fine).0 (bounds 1 m n fine).1 tt))
+    ((_, refl), (ap (λ n. has n (5 ∷ [])) a.long, number_passes _ 2 4 1 m n (a.each 0 (omega arith)) (bounds 1 m n fine) tt))
 said_passes _ _ an_end a = ((_, refl), (refl, tt))
 
 pub follows_passes : (e : Expected) (r : Row) → Follows e r → All (Passes (text r)) (tests e (length (text r)))

@@ -2,7 +2,7 @@
 use Rattle.std.proofs.Common.{◌≡◌, ℕ, zero, suc, ◌-◌, ◌^◌, ◌<◌, ◌≤◌, List, [], ◌++◌, length, get_or, drop, replicate, decimal, sym, refl, ap, ◌∙◌, append-nil, arith, length-append}
 use lib.ListN.{length-replicate}
 use Rattle.std.specs.Int.{IsInRange}
-use Rattle.std.specs.List.{AllByRecursion as All}
+use Rattle.std.specs.List.{AllByRecursion}
 use Rattle.std.proofs.lemmas.Fmt.{decimal_is_IsNumeral, decimal_nonempty, decimal_injective, length-decimal-le}
 use Rattle.std.proofs.lemmas.Str.Parse.{digit_at}
 use Rattle.std.proofs.ByRecursion.{All-append, All-from_get_or}
@@ -42,7 +42,7 @@ length-spelled w n fits some small = length-spelled_fit w n (length-decimal-le w
 pub means_spelled : (w n : ℕ) → n < 2 ^ 64 → length (decimal n) ≤ w → Means (spelled w n) (Number n)
 means_spelled w n small fits = (small, ap (λ k. spelled k n) (sym (length-spelled_fit w n fits)))
 
-pub spelled_no_newline : (w n : ℕ) → n < 2 ^ 64 → All (λ b. b ≡ 10 → ⊥) (spelled w n)
+pub spelled_no_newline : (w n : ℕ) → n < 2 ^ 64 → AllByRecursion (λ b. b ≡ 10 → ⊥) (spelled w n)
 spelled_no_newline w n small =
     All-append (λ b. b ≡ 10 → ⊥) (replicate (w - length (decimal n)) 32) (decimal n)
     (All-from_get_or (λ b. b ≡ 10 → ⊥) _ 0 (λ i h e. omega (arith, get_or-replicate {A = ℕ} (w - length (decimal n)) i 32 0 (simp length-replicate at h))))

@@ -1,6 +1,6 @@
 -- The text of a row that follows passes every test, and of a record that fails there is one first test.
 use Rattle.std.proofs.Common.{◌≡◌, ℕ, zero, suc, ◌+◌, ◌*◌, ◌≤◌, true, List, [], ◌∷◌, length, get_or, sym, refl, ap, ◌∙◌, inl, inr, arith}
-use Rattle.std.specs.List.{AllByRecursion as All}
+use Rattle.std.specs.List.{AllByRecursion}
 use Rattle.std.proofs.ByRecursion.{All-append}
 use Rattle.std.proofs.lemmas.Bool.{eqb-true}
 use Rattle.netlist.specs.declared.kind.Kind.{Kind}
@@ -14,7 +14,7 @@ use Rattle.deck.specs.Tests.{Test, figure, turn, range, kind_takes, Shows, Passe
 use Rattle.deck.proofs.Following.{Follows, a_header, an_input, a_gate, an_output, an_end, limited}
 use Rattle.deck.proofs.Texts.{Fields, Says, says_text, Gated, gated}
 
-pub none_failed : (r : List ℕ) (ts : List Test) (t : Test) → All (Passes r) ts → FirstFailed r ts t → ⊥
+pub none_failed : (r : List ℕ) (ts : List Test) (t : Test) → AllByRecursion (Passes r) ts → FirstFailed r ts t → ⊥
 none_failed r [] t all first = first
 none_failed r (u ∷ us) t all (inl here) = here.1 all.0
 none_failed r (u ∷ us) t all (inr later) = none_failed r us t all.1 later.1
@@ -51,13 +51,13 @@ gate_long (suc (suc (suc zero))) low high = refl
 gate_long (suc (suc (suc (suc zero)))) low high = refl
 gate_long (suc (suc (suc (suc (suc n))))) low high = absurd (omega arith)
 
-reads_pass : (r : List ℕ) (m : ℕ) (ls : List ℕ) → Fields r 14 ls → on_lines m ls ≡ true → (k : ℕ) → k ≤ length ls → All (Passes r) (reads_tests m k)
+reads_pass : (r : List ℕ) (m : ℕ) (ls : List ℕ) → Fields r 14 ls → on_lines m ls ≡ true → (k : ℕ) → k ≤ length ls → AllByRecursion (Passes r) (reads_tests m k)
 reads_pass r m ls fields fine zero within = tt
 reads_pass r m ls fields fine (suc k) within =
     All-append (Passes r) (reads_tests m k) (number_tests (15 + 4 * k) 4 1 m) (reads_pass r m ls fields fine k (omega arith))
     (number_passes r (15 + 4 * k) 4 1 m (get_or ls k 0) (fields.each k within) (bounds 1 m (get_or ls k 0) (every_at (in_range 1 m) ls k 0 fine within)) tt)
 
-gate_passes : (n m : ℕ) (g : Gate) → Gated m g → Says (text (gate n g)) (gate n g) → All (Passes (text (gate n g))) (tests (gate_next n m) (length (text (gate n g))))
+gate_passes : (n m : ℕ) (g : Gate) → Gated m g → Says (text (gate n g)) (gate n g) → AllByRecursion (Passes (text (gate n g))) (tests (gate_next n m) (length (text (gate n g))))
 gate_passes n m g parts a =
     let t = text (gate n g) in
     let long = a.0.long in
@@ -76,7 +76,7 @@ gate_passes n m g parts a =
       ),
     )
 
-said_passes : (e : Expected) (r : Row) → Follows e r → Says (text r) r → All (Passes (text r)) (tests e (length (text r)))
+said_passes : (e : Expected) (r : Row) → Follows e r → Says (text r) r → AllByRecursion (Passes (text r)) (tests e (length (text r)))
 said_passes _ _ (a_header {i} {g} {o} l) a =
     let limits = limited i g o l in (
       (_, refl),
@@ -93,5 +93,5 @@ said_passes _ _ (an_output {m} {n} l fine) a =
     ((_, refl), (ap (λ n. has n (5 ∷ [])) a.long, number_passes _ 2 4 1 m n (a.each 0 (omega arith)) (bounds 1 m n fine) tt))
 said_passes _ _ an_end a = ((_, refl), (refl, tt))
 
-pub follows_passes : (e : Expected) (r : Row) → Follows e r → All (Passes (text r)) (tests e (length (text r)))
+pub follows_passes : (e : Expected) (r : Row) → Follows e r → AllByRecursion (Passes (text r)) (tests e (length (text r)))
 follows_passes e r f = said_passes e r f (says_text e r f)

@@ -1,6 +1,6 @@
 -- What the text of a row shows, that it holds no byte 10, and that no two rows that may follow share one.
 use Rattle.std.proofs.Common.{◌≡◌, ℕ, zero, suc, ◌+◌, ◌-◌, ◌*◌, ◌^◌, ◌<◌, ◌≤◌, true, cond, ◌&&◌, eqb, List, [], ◌∷◌, ◌++◌, length, get_or, take, sum, sym, refl, ap, ◌∙◌, subst, append_assoc, append-nil, arith, length-append}
-use Rattle.std.specs.List.{flat_map, AllByRecursion as All}
+use Rattle.std.specs.List.{flat_map, AllByRecursion}
 use Rattle.std.proofs.lemmas.List.{take_at, drop_at, ext_get_or}
 use Rattle.std.proofs.ByRecursion.{All-append}
 use Rattle.std.proofs.lemmas.Bool.{and_parts}
@@ -29,7 +29,7 @@ shown front back c w n before narrow small =
     record { fits = small; spelling = columns_at front (spelled w n) back c w before (length-spelled w n small narrow.0 (omega arith)) }
 
 abbrev pub Fours : List ℕ → Type 0
-Fours ls = All (λ n. n < 10 ^ 4) ls
+Fours ls = AllByRecursion (λ n. n < 10 ^ 4) ls
 
 -- so many bytes and then the numbers, in four columns each; none of the bytes is byte 10
 pub record Fields (t : List ℕ) (front : ℕ) (ls : List ℕ) : Type 0 where

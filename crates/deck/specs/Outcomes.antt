@@ -1,6 +1,6 @@
 -- What reading a deck comes to: its draft and the bytes used, or its first fault.
 use Rattle.std.specs.Prelude.{◌≡◌, ℕ, suc, List, ◌∷◌, ◌++◌, length, Ok, Err, Result, ◌≢◌}
-use Rattle.std.specs.List.{AllByRecursion as All}
+use Rattle.std.specs.List.{AllByRecursion}
 use Rattle.netlist.specs.Drafts.{Sheet, dead}
 use Rattle.deck.specs.Faults.{Told, told}
 use Rattle.deck.specs.Progress.{Progress, over, rows, Legal, expected, Whole, deck_text}
@@ -10,7 +10,7 @@ use Rattle.deck.specs.declared.fault.Fault.{Fault}
 
 -- no record ends in these bytes
 abbrev pub Unended : List ℕ → Type 0
-Unended bytes = All (λ b. b ≢ 10) bytes
+Unended bytes = AllByRecursion (λ b. b ≢ 10) bytes
 
 -- the record that the bytes begin with is cut, or fails a test
 pub data Fails (p : Progress) (at : ℕ) (bytes : List ℕ) (f : Told) : Type 0 where

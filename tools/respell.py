@@ -86,7 +86,9 @@ def main():
     new = set(TABLE.values())
     for old, name in TABLE.items():
         assert list(TABLE.values()).count(name) == 1, f"{old} falls together with another name"
-    for path in sorted(top.glob("crates/*/**/*.antt")) + sorted(top.glob("crates/*/**/*.rt")):
+    # What rt makes in out/ is not ours.
+    sources = [it for kind in ("antt", "rt") for it in sorted(top.glob(f"crates/*/**/*.{kind}")) if "out" not in it.parts]
+    for path in sources:
         text = path.read_text(encoding="utf-8")
         there = sorted(new & set(WORD.findall(text)))
         if there and path.suffix == ".antt":

@@ -1,7 +1,7 @@
 pub mod Answered
 pub mod Closing
+pub mod Marks
 pub mod Ranges
 pub mod Reading
 pub mod Searching
 pub mod Sheets
-pub mod Tables

@@ -1,25 +1,25 @@
 -- A closed netlist as its reader sees it.
-use Rattle.std.specs.Prelude.{◌≡◌, ℕ, zero, suc, ◌+◌, ◌<◌, ◌≤◌, Bool, true, cond, ◌⊎◌, length, Some, None, Option, slice_index, slice_index_or}
+use Rattle.std.specs.Prelude.{◌≡◌, ℕ, ◌+◌, ◌<◌, ◌≤◌, Bool, true, false, ◌⊎◌, List, length, count_by, Some, None, Option, slice_index, slice_index_or}
 use Rattle.netlist.specs.declared.closed.Netlist.{Netlist}
-use Rattle.netlist.specs.declared.row.GateRow.{GateRow}
+use Rattle.netlist.specs.GateRow.{MarkedGate}
 use Rattle.netlist.specs.Gates.{Circuit}
-use Rattle.netlist.specs.Rows.{gate_of, circuit_of}
+use Rattle.netlist.specs.Rows.{circuit_of}
 use Rattle.netlist.specs.Walks.{no_gate, Looped}
 
 abbrev pub circuit : Netlist → Circuit
-circuit n = circuit_of n.inputs n.gates n.outputs n.rows n.ends
+circuit n = circuit_of n.size n.rows n.ends
 
 -- the row of the gate that drives a line, with its looped mark
-pub record Drives (c : Circuit) (n : ℕ) (row : GateRow) : Type 0 where
+pub record Drives (c : Circuit) (n : ℕ) (row : MarkedGate) : Type 0 where
   pub place : ℕ
   pub within : place < length c.gates
   pub line : n ≡ c.inputs + 1 + place
-  pub its_gate : slice_index_or c.gates place no_gate ≡ gate_of row
+  pub its_gate : slice_index_or c.gates place no_gate ≡ row.gate
   pub marked_looped : row.looped ≡ true → ∥ Looped c n ∥₁
   pub looped_marked : Looped c n → row.looped ≡ true
 
 -- there is no row for an input, or past the last line
-abbrev pub Row : Circuit → ℕ → Option GateRow → Type 0
+abbrev pub Row : Circuit → ℕ → Option MarkedGate → Type 0
 Row c n None = (n ≤ c.inputs) ⊎ (c.inputs + length c.gates < n)
 Row c n (Some row) = Drives c n row
 
@@ -27,14 +27,10 @@ abbrev pub Output : Circuit → ℕ → Option ℕ → Type 0
 Output c k None = length c.outputs ≤ k
 Output c k (Some n) = (k < length c.outputs) × (slice_index c.outputs k ≡ n)
 
--- how many numbers below n pass
-abbrev pub count_below : (ℕ → Bool) → ℕ → ℕ
-count_below passes zero = 0
-count_below passes (suc n) = count_below passes n + cond (passes n) 1 0
-
 -- so many of the circuit's gates drive looped lines
 pub record LoopCount (c : Circuit) (count : ℕ) : Type 0 where
-  pub marked : ℕ → Bool
-  pub marked_looped : (k : ℕ) → k < length c.gates → marked k ≡ true → ∥ Looped c (c.inputs + 1 + k) ∥₁
-  pub looped_marked : (k : ℕ) → k < length c.gates → Looped c (c.inputs + 1 + k) → marked k ≡ true
-  pub count_is : count ≡ count_below marked (length c.gates)
+  pub marks : List Bool
+  pub one_each : length marks ≡ length c.gates
+  pub marked_looped : (k : ℕ) → k < length c.gates → slice_index_or marks k false ≡ true → ∥ Looped c (c.inputs + 1 + k) ∥₁
+  pub looped_marked : (k : ℕ) → k < length c.gates → Looped c (c.inputs + 1 + k) → slice_index_or marks k false ≡ true
+  pub count_is : count ≡ count_by (λ mark. mark) marks

@@ -12,9 +12,9 @@ pub record Sheet : Type 0 where
 
 abbrev pub sheet : Draft → Sheet
 sheet d = record {
-  gates = d.gates;
-  outputs = d.outputs;
-  circuit = circuit_of d.inputs d.drawn d.named d.rows d.ends;
+  gates = d.size.gates;
+  outputs = d.size.outputs;
+  circuit = circuit_of (record { inputs = d.size.inputs; gates = d.drawn; outputs = d.named }) d.rows d.ends;
 }
 
 -- 1 to 256 inputs, 1 to 768 gates, 1 to 256 outputs

@@ -1,5 +1,6 @@
 -- Gates and circuits as the subject has them, apart from how they are stored.
-use Rattle.std.specs.Prelude.{ℕ, Bool, true, ◌&&◌, List, [], ◌∷◌, length, codes, ◌==◌, nat_le}
+use Rattle.std.specs.Prelude.{ℕ, Bool, ◌&&◌, List, [], length, codes, ◌==◌, nat_le}
+use Rattle.std.specs.List.{list_all}
 use Rattle.netlist.specs.declared.kind.Kind.{Kind}
 use Rattle.netlist.specs.declared.kind.Kind.TheVariants.{Buf, Not, And, Or, Xor, Nand, Nor, Xnor}
 
@@ -47,13 +48,9 @@ fits Xnor n = in_range 2 4 n
 abbrev pub delay_fits : ℕ → Bool
 delay_fits d = in_range 1 65535 d
 
-abbrev pub every : {X : Type 0} → (X → Bool) → List X → Bool
-every passes [] = true
-every passes (x ∷ xs) = passes x && every passes xs
-
 -- each of them is a line of a netlist with so many lines
 abbrev pub on_lines : ℕ → List ℕ → Bool
-on_lines lines ns = every (in_range 1 lines) ns
+on_lines lines ns = list_all (in_range 1 lines) ns
 
 -- a gate that a netlist with so many lines may have
 abbrev pub legal : ℕ → Gate → Bool

@@ -1,5 +1,6 @@
 pub mod Closed
 pub mod Drafts
+pub mod GateRow
 pub mod Gates
 pub mod Judging
 pub mod Refusals

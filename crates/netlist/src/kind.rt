@@ -1,6 +1,8 @@
 // The kinds of gates.
-ghost use Rattle.std.specs.Prelude.{◌≡◌};
+ghost use Rattle.std.specs.Prelude.{◌≡◌, Some};
 ghost use Rattle.netlist.specs.Gates.{fits, kind_name};
+
+use std::fmt;
 
 #[derive(Clone, Copy, PartialEq, Eq, Debug)]
 pub enum Kind {
@@ -21,7 +23,7 @@ impl Kind {
     {
         match self {
             Kind::Buf | Kind::Not => count == 1,
-            _ => 2 <= count && count <= 4,
+            _ => (2..=4).contains(&count),
         }
     }
 
@@ -38,5 +40,13 @@ impl Kind {
             Kind::Nor => "NOR",
             Kind::Xnor => "XNOR",
         }
+    }
+}
+
+impl fmt::Display for Kind {
+    ghost output = { λ kind. Some (kind_name kind) };
+
+    fn fmt<W: fmt::Write>(&self, f: &mut fmt::Formatter<W>) -> fmt::Result {
+        f.write_str(self.name())
     }
 }

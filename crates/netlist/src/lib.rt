@@ -6,3 +6,4 @@ pub mod draft;
 pub mod kind;
 pub mod refusal;
 pub mod row;
+pub mod size;

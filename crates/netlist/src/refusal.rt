@@ -1,53 +1,37 @@
 // Every refusal of the simulator, with its number and its word.
-ghost use Rattle.std.specs.Prelude.{◌≡◌};
+ghost use Rattle.std.specs.Prelude.{◌≡◌, Some};
 ghost use Rattle.netlist.specs.Refusals.{number, word};
+
+use std::error::Error;
+use std::fmt;
 
 #[derive(Clone, Copy, PartialEq, Eq, Debug)]
 pub enum Refusal {
-    Cut,
-    Letter,
-    Length,
-    Figure,
-    Range,
-    Turn,
-    Kind,
-    Open,
-    Free,
-    Store,
-    Starts,
-    Line,
-    Past,
-    Late,
-    Unsettled,
-    Full,
-    Idle,
-    None,
+    Cut = 1,
+    Letter = 2,
+    Length = 3,
+    Figure = 4,
+    Range = 5,
+    Turn = 6,
+    Kind = 7,
+    Open = 8,
+    Free = 9,
+    Store = 10,
+    Starts = 11,
+    Line = 12,
+    Past = 13,
+    Late = 14,
+    Unsettled = 15,
+    Full = 16,
+    Idle = 17,
+    None = 18,
 }
 
 impl Refusal {
     pub fn number(self) -> u8
         ensures { result ≡ number self }
     {
-        match self {
-            Refusal::Cut => 1,
-            Refusal::Letter => 2,
-            Refusal::Length => 3,
-            Refusal::Figure => 4,
-            Refusal::Range => 5,
-            Refusal::Turn => 6,
-            Refusal::Kind => 7,
-            Refusal::Open => 8,
-            Refusal::Free => 9,
-            Refusal::Store => 10,
-            Refusal::Starts => 11,
-            Refusal::Line => 12,
-            Refusal::Past => 13,
-            Refusal::Late => 14,
-            Refusal::Unsettled => 15,
-            Refusal::Full => 16,
-            Refusal::Idle => 17,
-            Refusal::None => 18,
-        }
+        self as u8
     }
 
     pub fn word(self) -> &'static str
@@ -75,3 +59,13 @@ impl Refusal {
         }
     }
 }
+
+impl fmt::Display for Refusal {
+    ghost output = { λ refusal. Some (word refusal) };
+
+    fn fmt<W: fmt::Write>(&self, f: &mut fmt::Formatter<W>) -> fmt::Result {
+        f.write_str(self.word())
+    }
+}
+
+impl Error for Refusal {}

@@ -1,18 +1,37 @@
 // A row of the table of gates.
-ghost use Rattle.std.specs.Prelude.{◌≡◌, ◌≤◌, length};
-ghost use Rattle.netlist.specs.Rows.{gate_of};
+ghost use Rattle.std.specs.Prelude.{◌≡◌, ℕ, ◌+◌, ◌<◌, ◌≤◌, false, cond, ◌⊎◌, length, IfOk, MatchOption, slice_index_or};
+ghost use Rattle.netlist.specs.GateRow.{empty};
+ghost use Rattle.netlist.specs.Gates.{fits};
+ghost use Rattle.netlist.specs.Refusals.{answer};
 
 use crate::kind::Kind;
+use crate::refusal::Refusal;
+use std::marker::Model;
 
-// A gate: its kind, its delay, and the lines it reads, of which the first `count` stand in `lines`.
+// A gate: its kind, its delay, and the lines it reads, of which the first `count` stand in `lines`, with 0 after them.
 // `looped` is set at closing: a walk through gates leads from the gate's line back to itself.
 #[derive(Clone, Copy, Debug)]
 pub struct GateRow {
     pub kind: Kind,
     pub delay: u32,
-    pub lines: [u32; 4],
-    pub count: usize,
+    lines: [u32; 4],
+    count: usize,
     pub looped: bool,
+}
+
+impl Model for GateRow {
+    ghost use Rattle.std.specs.Prelude.{length, take, refl};
+    ghost use Rattle.netlist.specs.GateRow.{MarkedGate, IsPadded, padded, padded_again, counted};
+
+    ghost Value = { MarkedGate };
+
+    ghost view = { λ r. record { gate = record { kind = r.kind; delay = r.delay; reads = take r.count r.lines }; looped = r.looped } };
+
+    ghost invariant = { λ r. IsPadded r.lines r.count };
+
+    ghost inverse = { λ v. record { kind = v.gate.kind; delay = v.gate.delay; lines = padded v.gate.reads; count = length v.gate.reads; looped = v.looped } };
+
+    ghost inverse_ok = { λ r tidy. rw (padded_again r.lines r.count tidy, counted r.lines r.count tidy) refl };
 }
 
 impl GateRow {
@@ -24,20 +43,44 @@ impl GateRow {
         looped: false,
     };
 
-    pub(crate) fn new(kind: Kind, delay: u32, lines: &[u32]) -> GateRow
-        requires { length lines.now ≤ 4 }
-        ensures gate { gate_of result ≡ record { kind = kind; delay = delay; reads = lines.now } }
-        ensures fan_in { result.count ≤ 4 }
+    // The row of a gate, not marked as looped; refused where its kind does not take so many lines.
+    pub fn new(kind: Kind, delay: u32, lines: &[u32]) -> Result<GateRow, Refusal>
+        ensures answers { answer result ≡ cond (fits kind (length lines.now)) 0 7 }
+        ensures row { IfOk result (λ row. row ≡ record { gate = record { kind = kind; delay = delay; reads = lines.now }; looped = false }) }
     {
         let count = lines.len();
+        if !kind.takes(count) {
+            return Err(Refusal::Kind);
+        }
         let mut reads = [0; 4];
-        reads[0..count].copy_from_slice(lines);
-        GateRow {
+        reads[..count].copy_from_slice(lines);
+        Ok(GateRow {
             kind,
             delay,
             lines: reads,
             count,
             looped: false,
-        }
+        })
     }
+
+    // Marks the gate's line as looped, or as not.
+    pub(crate) fn mark(&mut self, looped: bool)
+        ensures { self.new ≡ record { gate = self.old.gate; looped = looped } }
+    {
+        self.looped = looped;
+    }
+
+    // The lines that the gate reads, from first to last.
+    pub fn reads(&self) -> &[u32]
+        ensures { result.now ≡ self.now.gate.reads }
+    {
+        &self.lines[..self.count]
+    }
+}
+
+// The row of the gate that drives a line, of the rows of the gates that come after so many inputs.
+pub(crate) fn row_of_line(rows: &[GateRow], inputs: usize, line: u32) -> Option<&GateRow>
+    ensures { MatchOption result ((line ≤ inputs) ⊎ (inputs + length rows.now < line)) (λ row. (k : ℕ) × (k < length rows.now) × (line ≡ inputs + 1 + k) × (row.now ≡ slice_index_or rows.now k empty)) }
+{
+    rows.get((line as usize).checked_sub(inputs)?.checked_sub(1)?)
 }

@@ -1,31 +1,19 @@
 // Adding gates and outputs to a draft.
-ghost use Rattle.std.specs.Prelude.{◌≡◌, ◌+◌, ◌<◌, ◌≤◌, true, ◌≢◌};
+ghost use Rattle.std.specs.Prelude.{◌≡◌, ◌+◌, ◌<◌, true, ◌≢◌};
 ghost use Rattle.netlist.specs.Drafts.{sheet, takes_gate, takes_output, gate_answer, output_answer, with_gate, with_output};
-ghost use Rattle.netlist.specs.Gates.{in_range, on_lines, legal};
+ghost use Rattle.netlist.specs.Gates.{on_lines, legal};
 ghost use Rattle.netlist.specs.Refusals.{answer};
-ghost use Rattle.netlist.specs.Rows.{gate_of};
 
 use super::Draft;
 use crate::kind::Kind;
 use crate::refusal::Refusal;
 use crate::row::GateRow;
 
-pub(super) fn in_range(n: usize, least: usize, most: usize) -> bool
-    ensures { result ≡ in_range least most n }
-{
-    least <= n && n <= most
-}
-
 // Whether each of them is a line of a netlist with so many lines.
 fn on_lines(numbers: &[u32], lines: usize) -> bool
     ensures { result ≡ on_lines lines numbers.now }
 {
-    for n in numbers {
-        if !in_range(*n as usize, 1, lines) {
-            return false;
-        }
-    }
-    true
+    numbers.iter().all(|n| (1..=lines).contains(&(*n as usize)))
 }
 
 impl Draft {
@@ -37,26 +25,17 @@ impl Draft {
         ensures adds { answer result ≡ 0 → sheet self.new ≡ with_gate (sheet self.old) (record { kind = kind; delay = delay; reads = lines.now }) }
         ensures refused_alters_nothing { (answer result ≢ 0) → self.new ≡ self.old }
     {
-        self.test_gate(kind, delay, lines)?;
-        self.draw(GateRow::new(kind, delay, lines));
-        Ok(())
-    }
-
-    fn test_gate(&self, kind: Kind, delay: u32, lines: &[u32]) -> Result<(), Refusal>
-        ensures { answer result ≡ gate_answer (sheet self.now) (record { kind = kind; delay = delay; reads = lines.now }) }
-    {
         if !self.takes_gate() {
             return Err(Refusal::Letter);
         }
-        if !in_range(delay as usize, 1, Self::MOST_DELAY) {
+        if !(1..=Self::MOST_DELAY).contains(&(delay as usize)) {
             return Err(Refusal::Range);
         }
-        if !on_lines(lines, self.inputs + self.gates) {
+        if !on_lines(lines, self.lines()) {
             return Err(Refusal::Range);
         }
-        if !kind.takes(lines.len()) {
-            return Err(Refusal::Kind);
-        }
+        let row = GateRow::new(kind, delay, lines)?;
+        self.draw(row);
         Ok(())
     }
 
@@ -64,15 +43,14 @@ impl Draft {
     pub fn takes_gate(&self) -> bool
         ensures { result ≡ takes_gate (sheet self.now) }
     {
-        self.drawn < self.gates
+        self.drawn < self.size.gates
     }
 
     // Fills the next row.
     fn draw(&mut self, row: GateRow)
-        requires room { self.old.drawn < self.old.gates }
-        requires fan_in { row.count ≤ 4 }
-        requires lawful { legal (self.old.inputs + self.old.gates) (gate_of row) ≡ true }
-        ensures { sheet self.new ≡ with_gate (sheet self.old) (gate_of row) }
+        requires room { self.old.drawn < self.old.size.gates }
+        requires lawful { legal (self.old.size.inputs + self.old.size.gates) row.gate ≡ true }
+        ensures { sheet self.new ≡ with_gate (sheet self.old) row.gate }
     {
         let at = self.drawn;
         self.rows[at] = row;
@@ -88,7 +66,7 @@ impl Draft {
         if !self.takes_output() {
             return Err(Refusal::Letter);
         }
-        if !in_range(line as usize, 1, self.inputs + self.gates) {
+        if !(1..=self.lines()).contains(&(line as usize)) {
             return Err(Refusal::Range);
         }
         let at = self.named;
@@ -101,6 +79,6 @@ impl Draft {
     pub fn takes_output(&self) -> bool
         ensures { result ≡ takes_output (sheet self.now) }
     {
-        self.drawn == self.gates && self.named < self.outputs
+        self.drawn == self.size.gates && self.named < self.size.outputs
     }
 }

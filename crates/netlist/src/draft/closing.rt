@@ -1,17 +1,18 @@
 // Closing a draft, which spends it.
-ghost use Rattle.std.specs.Prelude.{◌≡◌, ℕ, ◌+◌, ◌<◌, ◌≤◌, true, ◌≢◌, slice_index_or};
+ghost use Rattle.std.specs.Prelude.{◌≡◌, ℕ, ◌+◌, ◌<◌, true, ◌≢◌, slice_index_or};
 ghost use Rattle.netlist.specs.Closed.{circuit};
 ghost use Rattle.netlist.specs.Drafts.{sheet, complete};
+ghost use Rattle.netlist.specs.GateRow.{empty};
 ghost use Rattle.netlist.specs.Gates.{nothing};
 ghost use Rattle.netlist.specs.Judging.{Judged, AllReached};
 ghost use Rattle.netlist.specs.Refusals.{answer};
-ghost use Rattle.netlist.specs.Rows.{no_row};
 ghost use Rattle.netlist.specs.Walks.{Looped};
 
 use super::Draft;
+use super::search::LineRange;
 use crate::closed::Netlist;
 use crate::refusal::Refusal;
-use crate::row::GateRow;
+use crate::size::Size;
 
 impl Draft {
     // Answers what judging answers, and gives the netlist: the draft's where nothing is refused, else the
@@ -35,18 +36,18 @@ impl Draft {
     {
         self.mark_loops();
         let Draft {
-            inputs,
-            gates: _,
-            outputs: _,
+            size,
             drawn,
             named,
             rows,
             ends,
         } = self;
         Netlist {
-            inputs,
-            gates: drawn,
-            outputs: named,
+            size: Size {
+                inputs: size.inputs,
+                gates: drawn,
+                outputs: named,
+            },
             rows,
             ends,
         }
@@ -55,28 +56,18 @@ impl Draft {
     // Marks the gates whose line leads back to itself.
     fn mark_loops(&mut self)
         ensures same { sheet self.new ≡ sheet self.old }
-        ensures marked_looped { (k : ℕ) → k < self.new.drawn → (slice_index_or self.new.rows k no_row).looped ≡ true → Looped (sheet self.old).circuit (self.new.inputs + 1 + k) }
-        ensures looped_marked { (k : ℕ) → k < self.new.drawn → Looped (sheet self.old).circuit (self.new.inputs + 1 + k) → (slice_index_or self.new.rows k no_row).looped ≡ true }
+        ensures marked_looped { (k : ℕ) → k < self.new.drawn → (slice_index_or self.new.rows k empty).looped ≡ true → Looped (sheet self.old).circuit (self.new.size.inputs + 1 + k) }
+        ensures looped_marked { (k : ℕ) → k < self.new.drawn → Looped (sheet self.old).circuit (self.new.size.inputs + 1 + k) → (slice_index_or self.new.rows k empty).looped ≡ true }
     {
+        // By place: each search reads the whole draft, so no row is lent while it runs.
         for place in 0..self.drawn {
-            let line = self.inputs + 1 + place;
-            let looped = self.leads(line, line, line as u32);
-            self.rows[place].looped = looped;
-        }
-    }
-}
-
-impl Netlist {
-    // The netlist without lines.
-    fn empty() -> Netlist
-        ensures { circuit result ≡ nothing }
-    {
-        Netlist {
-            inputs: 0,
-            gates: 0,
-            outputs: 0,
-            rows: [GateRow::EMPTY; 768],
-            ends: [0; 256],
+            let line = self.size.inputs + 1 + place;
+            let itself = LineRange {
+                first: line,
+                last: line,
+            };
+            let looped = self.leads(itself, line as u32);
+            self.rows[place].mark(looped);
         }
     }
 }

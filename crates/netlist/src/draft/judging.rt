@@ -5,6 +5,7 @@ ghost use Rattle.netlist.specs.Judging.{Judged, FreeGate};
 ghost use Rattle.netlist.specs.Refusals.{answer};
 
 use super::Draft;
+use super::search::LineRange;
 use crate::refusal::Refusal;
 
 impl Draft {
@@ -24,17 +25,20 @@ impl Draft {
     pub fn is_complete(&self) -> bool
         ensures { result ≡ complete (sheet self.now) }
     {
-        (0 < self.gates) & (self.drawn == self.gates) & (self.named == self.outputs)
+        0 < self.size.gates && self.drawn == self.size.gates && self.named == self.size.outputs
     }
 
     // The lowest gate line, of those drawn so far, that no input reaches.
     pub fn unreached(&self) -> Option<u32>
         ensures { FreeGate (sheet self.now).circuit result }
     {
-        let inputs = self.inputs;
-        for place in 0..self.drawn {
-            let line = (inputs + 1 + place) as u32;
-            if !self.leads(1, inputs, line) {
+        let inputs = LineRange {
+            first: 1,
+            last: self.size.inputs,
+        };
+        for line in self.size.inputs + 1..self.next_line() {
+            let line = line as u32;
+            if !self.leads(inputs, line) {
                 return Some(line);
             }
         }

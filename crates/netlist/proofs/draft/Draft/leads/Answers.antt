@@ -1,21 +1,31 @@
-use Rattle.std.proofs.Common.{refl}
-use Rattle.std.proofs.lemmas.Bool.{false≢true}
+use Rattle.std.proofs.Common.{sym, subst}
 use Rattle.netlist.specs.Drafts.{sheet}
-use Rattle.netlist.proofs.Searching.{begins, goes_on, ends}
+use Rattle.netlist.specs.Searches.{start, Upstream, Grows, Followed}
+use Rattle.netlist.proofs.Searching.{begins, steps_on, goes_on, ends}
 use Rattle.netlist.proofs.draft.Draft.leads.Goals as goal
 
-pub loop-search-init : goal.loop-search-init
-loop-search-init c =
+pub loop-line-init : goal.loop-line-init
+loop-line-init c =
     let made = c.new-search.ensures in
-    begins (sheet c.args.self.now).circuit c.args.first c.args.last c.args.to c.new-search.result made.nothing_seen made.found_start made.length_found made.count_one made.next_none
+    begins (sheet c.args.self.now).circuit c.args.sources.first c.args.sources.last c.args.to c.new-search.result made.nothing_seen made.found_start made.next_none
 
-pub loop-search-preserved : goal.loop-search-preserved
-loop-search-preserved c =
-    let told = c.if-visit.ensures in
-    goes_on (sheet c.args.self.now).circuit c.args.first c.args.last c.args.to c.loop-search.search c.visit.new.search c.loop-search.invariant c.loop-search-test.true (told.sound refl) (told.grows refl) (told.followed refl)
+pub visit-requires : goal.visit-requires
+visit-requires c =
+    let s = c.loop-line.search in
+    let next = c.in-Some.ensures in
+    let circuit = (sheet c.args.self.now).circuit in
+    record {
+      sound = steps_on circuit c.args.sources.first c.args.sources.last s c.follow.new.self next.2 c.loop-line.invariant.sound;
+      upstream = subst (λ t. Upstream circuit (start t) c.in-Some.line) (sym next.2) (subst (Upstream circuit (start s)) (sym next.1) (c.loop-line.invariant.sound.upstream s.next next.0));
+    }
 
-pub returns : goal.returns
-returns c = record {
-  yes = λ e. absurd (false≢true e);
-  no = λ _. ends (sheet c.args.self.now).circuit c.args.first c.args.last c.args.to c.loop-search.search c.loop-search.invariant c.loop-search-test.false;
-}
+pub loop-line-preserved : goal.loop-line-preserved
+loop-line-preserved c =
+    let circuit = (sheet c.args.self.now).circuit in
+    let next = c.in-Some.ensures in
+    let told = c.visit.ensures in
+    goes_on circuit c.args.sources.first c.args.sources.last c.args.to c.loop-line.search c.visit.new.search c.loop-line.invariant next.0 (told.sound c.if-visit.false) (subst (λ s. Grows s c.visit.new.search) next.2 (told.grows c.if-visit.false)) (subst (Followed circuit c.visit.new.search) next.1 (told.followed c.if-visit.false))
+
+pub returns-clause-no : goal.returns-clause-no
+returns-clause-no c =
+    λ _. ends (sheet c.args.self.now).circuit c.args.sources.first c.args.sources.last c.args.to c.loop-line.search c.loop-line.invariant c.in_default.ensures.0

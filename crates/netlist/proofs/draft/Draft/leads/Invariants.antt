@@ -1,11 +1,10 @@
-use Rattle.std.proofs.Common.{◌≡◌, ℕ, ◌-◌, ◌<◌, ◌≤◌, get_or}
+use Rattle.std.proofs.Common.{◌-◌}
 use Rattle.netlist.specs.Drafts.{sheet}
-use Rattle.netlist.specs.Searches.{Sound, Followed, start}
+use Rattle.netlist.proofs.Searching.{Progress}
 use Rattle.netlist.proofs.draft.Draft.leads.Given as goal
 
-abbrev pub invariant-loop-search : goal.invariant-loop-search
-invariant-loop-search l =
-    Sound (sheet l.self).circuit l.first l.last l.search × (start l.search ≡ l.to) × (l.search.next ≤ l.search.count) × ((i : ℕ) → i < l.search.next → Followed (sheet l.self).circuit l.search (get_or l.search.found i 0))
+abbrev pub invariant-loop-line : goal.invariant-loop-line
+invariant-loop-line l = Progress (sheet l.self).circuit l.sources.first l.sources.last l.to l.search
 
-abbrev pub decreases-loop-search : goal.decreases-loop-search
-decreases-loop-search l = 1026 - l.search.next
+abbrev pub decreases-loop-line : goal.decreases-loop-line
+decreases-loop-line l = 1026 - l.search.next

@@ -1,24 +1,16 @@
-use Rattle.std.proofs.Common.{◌-◌, get_or, take, sym, ap, ◌∙◌, ⊎_elim, arith, rules}
-use native.Mathlib.Nat.{sub-zero}
+use Rattle.std.proofs.Common.{take, sym, ap, ◌∙◌}
+use Rattle.std.proofs.lemmas.List.{get_or-map}
 use Rattle.netlist.specs.Drafts.{sheet}
-use Rattle.netlist.specs.Rows.{no_row}
-use Rattle.netlist.proofs.Reading.{reads_at_input, reads_past, reads_row}
-use Rattle.netlist.proofs.Sheets.{drawn_is}
+use Rattle.netlist.specs.GateRow.{MarkedGate, empty}
+use Rattle.netlist.specs.Gates.{Gate}
+use Rattle.netlist.specs.Rows.{gate_of}
+use Rattle.netlist.specs.Walks.{no_gate}
+use Rattle.netlist.proofs.Reading.{reads_at_gate}
 use Rattle.netlist.proofs.draft.Draft.reads.Goals as goal
 
-pub returns-then-line-inputs : goal.returns-then-line-inputs
-returns-then-line-inputs c =
+pub returns-in-Some : goal.returns-in-Some
+returns-in-Some c =
     let d = c.args.self.now in
-    sym (⊎_elim (λ low. reads_at_input (sheet d).circuit _ low) (λ high. reads_past (sheet d).circuit _ (rw (drawn_is d) high.1)) c.then-line-inputs.either)
-
-pub slice_bounds-result-end-2 : goal.slice_bounds-result-end-2
-slice_bounds-result-end-2 c =
-    let d = c.args.self.now in
-    let few = d.fan_in (c.args.line - d.inputs - 1) in
-    search rules
-
-pub returns : goal.returns
-returns c =
-    let d = c.args.self.now in
-    let row = get_or d.rows (c.args.line - d.inputs - 1) no_row in
-    ap (λ k. take k row.lines) (sub-zero row.count) ∙ sym (reads_row d c.args.line (omega arith) (omega arith))
+    let (k, within, line, row) = c.in-Some.ensures in
+    let gate = get_or-map gate_of (take d.drawn d.rows) k empty no_gate within in
+    c.reads.ensures ∙ ap (λ (r : MarkedGate). r.gate.reads) row ∙ sym (reads_at_gate (sheet d).circuit c.args.line k line ∙ ap (λ (g : Gate). g.reads) gate)

@@ -1,5 +1,4 @@
 use Rattle.std.proofs.Common.{◌≡◌, ℕ, ◌+◌, ◌<◌, List, length, get_or, sym, ap, ◌∙◌, subst, arith}
-use Rattle.std.proofs.lemmas.Bool.{true≢false}
 use Rattle.netlist.specs.declared.draft.Draft.{Draft}
 use Rattle.netlist.specs.declared.draft.search.Search.{Search}
 use Rattle.netlist.specs.Drafts.{sheet}
@@ -15,19 +14,14 @@ read_at : (d : Draft) (n k : ℕ) (ks : List ℕ) → ks ≡ reads (sheet d).cir
 read_at d n k ks e within = record { place = k; within = subst (λ l. k < length l) e within; is = ap (λ l. get_or l k 0) (sym e) }
 
 on_table : (d : Draft) (n m : ℕ) → Reads (sheet d).circuit n m → m < 1025
-on_table d n m read = let b = read_bounds (sheet d).circuit (d.inputs + d.gates) n m d.wired read in omega arith
+on_table d n m read = let b = read_bounds (sheet d).circuit (d.size.inputs + d.size.gates) n m d.wired read in omega arith
 
-pub returns-then-in_range : goal.returns-then-in_range
-returns-then-in_range c =
+pub returns-then-contains-clause-leads : goal.returns-then-contains-clause-leads
+returns-then-contains-clause-leads c =
     let d = c.args.self.now in
-    let read = read_at c.args.self.now c.args.line c.loop-read.read-index _ c.reads-read-items.ensures c.loop-read-test.true in
-    let inside = bounds c.args.first c.args.last _ (sym c.if-in_range.ensures) in
-    record {
-      leads = λ _. record { from = _; not_before = inside.0; not_after = inside.1; walk = further (sheet d).circuit _ c.args.line _ c.requires.upstream read };
-      sound = λ e. absurd (true≢false e);
-      grows = λ e. absurd (true≢false e);
-      followed = λ e. absurd (true≢false e);
-    }
+    let read = read_at d c.args.line c.loop-read.read-index _ c.reads-read-items.ensures c.loop-read-test.true in
+    let inside = bounds c.args.sources.first c.args.sources.last _ (sym c.if-contains.ensures) in
+    λ _. record { from = _; not_before = inside.0; not_after = inside.1; walk = further (sheet d).circuit _ c.args.line _ c.requires.upstream read }
 
 pub bounds-search-read : goal.bounds-search-read
 bounds-search-read c = on_table c.args.self.now c.args.line _ (read_at c.args.self.now c.args.line c.loop-read.read-index _ c.reads-read-items.ensures c.loop-read-test.true)
@@ -35,8 +29,8 @@ bounds-search-read c = on_table c.args.self.now c.args.line _ (read_at c.args.se
 pub mark-requires : goal.mark-requires
 mark-requires c =
     let d = c.args.self.now in
-    let fits = on_table d c.args.line _ (read_at c.args.self.now c.args.line c.loop-read.read-index _ c.reads-read-items.ensures c.loop-read-test.true) in
-    record { on_table = fits; room = room (sheet d).circuit c.args.first c.args.last c.loop-read.search c.loop-read.invariant.0 _ fits c.if-not-search-read.true }
+    let fits = on_table d c.args.line _ (read_at d c.args.line c.loop-read.read-index _ c.reads-read-items.ensures c.loop-read-test.true) in
+    record { on_table = fits; room = room (sheet d).circuit c.args.sources.first c.args.sources.last c.loop-read.search c.loop-read.invariant.sound _ fits c.if-not-search-read.true }
 
 pub loop-read-preserved : goal.loop-read-preserved
 loop-read-preserved c =
@@ -45,8 +39,8 @@ loop-read-preserved c =
     let m = get_or c.reads-read-items.result.now i 0 in
     let read = read_at d c.args.line i _ c.reads-read-items.ensures c.loop-read-test.true in
     let at : get_or (reads (sheet d).circuit c.args.line) i 0 ≡ m = ap (λ l. get_or l i 0) (sym c.reads-read-items.ensures) in
-    let Then : Search → Type 0 = Visiting (sheet d).circuit c.args.first c.args.last c.args.line c.args.search.now (i + 1) in
+    let Then : Search → Type 0 = Visiting (sheet d).circuit c.args.sources.first c.args.sources.last c.args.line c.args.search.now (i + 1) in
     elim c.if-not-search-read.branch [
-      | then-not-search-read w ↦ subst Then (sym (w.search-is ∙ w.mark.ensures)) (visit_marked (sheet d).circuit c.args.first c.args.last c.args.line c.args.search.now c.loop-read.search i m at c.loop-read.invariant c.requires.sound.some (on_table d c.args.line m read) w.if-not-search-read.true (sym c.if-in_range.ensures) (further (sheet d).circuit _ c.args.line m c.requires.upstream read))
-      | else-not-search-read w ↦ subst Then (sym w.search-is) (visit_seen (sheet d).circuit c.args.first c.args.last c.args.line c.args.search.now c.loop-read.search i m at c.loop-read.invariant w.if-not-search-read.false)
+      | then-not-search-read w ↦ subst Then (sym (w.search-is ∙ w.mark.ensures)) (visit_marked (sheet d).circuit c.args.sources.first c.args.sources.last c.args.line c.args.search.now c.loop-read.search i m at c.loop-read.invariant c.requires.sound.some (on_table d c.args.line m read) w.if-not-search-read.true (sym c.if-contains.ensures) (further (sheet d).circuit _ c.args.line m c.requires.upstream read))
+      | else-not-search-read w ↦ subst Then (sym w.search-is) (visit_seen (sheet d).circuit c.args.sources.first c.args.sources.last c.args.line c.args.search.now c.loop-read.search i m at c.loop-read.invariant w.if-not-search-read.false)
     ]

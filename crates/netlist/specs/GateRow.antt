@@ -1,0 +1,31 @@
+-- What a row of the table of gates shows, and how it keeps the lines that its gate reads.
+use Rattle.std.specs.Prelude.{◌≡◌, ℕ, ◌-◌, ◌≤◌, Bool, false, List, [], ◌++◌, length, take, drop, replicate}
+use Rattle.std.proofs.lemmas.List.{take-append-drop, length-take-le}
+use Rattle.netlist.specs.declared.kind.Kind.{Kind}
+use Rattle.netlist.specs.Gates.{Gate}
+
+-- a gate, and whether its line is marked as looped
+pub record MarkedGate : Type 0 where
+  pub gate : Gate
+  pub looped : Bool
+
+-- a row that no gate has filled
+abbrev pub empty : MarkedGate
+empty = record { gate = record { kind = Kind.Buf; delay = 0; reads = [] }; looped = false }
+
+-- so many lines stand in the first of four places, and 0 in the others
+pub record IsPadded (places : List ℕ) (count : ℕ) : Type 0 where
+  pub few : count ≤ 4
+  pub four : length places ≡ 4
+  pub spare : drop count places ≡ replicate (4 - count) 0
+
+-- the lines in four places
+abbrev pub padded : List ℕ → List ℕ
+padded lines = lines ++ replicate (4 - length lines) 0
+
+-- the places and their count are those of the lines that they hold
+pub counted : (places : List ℕ) (count : ℕ) → IsPadded places count → length (take count places) ≡ count
+counted places count h = length-take-le count places (rw h.four h.few)
+
+pub padded_again : (places : List ℕ) (count : ℕ) → IsPadded places count → padded (take count places) ≡ places
+padded_again places count h = rw (counted places count h, ← h.spare) (take-append-drop count places)

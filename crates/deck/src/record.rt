@@ -116,7 +116,6 @@ impl<'a> Record<'a> {
     fn reads(&self, count: usize, lines: usize) -> Result<[u32; 4], Fault>
         requires few { count ≤ 4 }
         requires within { 15 + 4 * count ≤ length self.now.fields.now + 2 }
-        requires small { lines ≤ 1024 }
         ensures { MatchResult result (λ ns. (length ns ≡ 4) × ReadsShown (whole self.now) lines count ns) (λ f. Failed (whole self.now) self.now.number (reads_tests lines count) f) }
     {
         let mut reads = [0; 4];
@@ -163,7 +162,6 @@ impl<'a> Record<'a> {
 
     // G: the next gate.
     pub(crate) fn gate(&self, line: usize, lines: usize) -> Result<GateRow, Fault>
-        requires { lines ≤ 1024 }
         ensures { MatchResult result (λ row. Spells self.now (gate line (gate_of row)) × (legal lines (gate_of row) ≡ true) × (row.count ≤ 4) × (row.looped ≡ false)) (λ f. Failed (whole self.now) self.now.number (fields_tests (gate_next line lines) (length (whole self.now))) f) }
     {
         self.length(&[18, 22, 26, 30])?;
@@ -186,7 +184,6 @@ impl<'a> Record<'a> {
 
     // O: the line that an output names.
     pub(crate) fn output(&self, lines: usize) -> Result<u32, Fault>
-        requires { lines ≤ 1024 }
         ensures { MatchResult result (λ n. Spells self.now (output n) × (in_range 1 lines n ≡ true)) (λ f. Failed (whole self.now) self.now.number (fields_tests (output_next lines) (length (whole self.now))) f) }
     {
         self.length(&[5])?;

@@ -13,7 +13,7 @@ use Rattle.deck.specs.declared.fault.Fault.{Fault}
 use Rattle.deck.specs.declared.reader.DeckReader.{DeckReader}
 
 abbrev pub progress_of : DeckReader → Progress
-progress_of d = progress d.phase d.told (sheet d.draft)
+progress_of d = progress d.phase (sheet d.draft)
 
 -- a gate of a deck is not marked as looped, which closing finds
 abbrev pub Unmarked : Entry → Type 0

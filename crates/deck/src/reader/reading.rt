@@ -47,7 +47,6 @@ impl DeckReader {
         let DeckReader {
             records: _,
             phase,
-            told: _,
             draft,
         } = self;
         match phase {

@@ -20,7 +20,6 @@ impl DeckReader {
         DeckReader {
             records: 0,
             phase: Phase::Header,
-            told: 0,
             draft: Draft::new(0, 0, 0),
         }
     }
@@ -33,27 +32,25 @@ impl DeckReader {
     {
         let header = source.header()?;
         self.draft = Draft::new(header.inputs, header.gates, header.outputs);
-        self.phase = Phase::Inputs;
-        self.told = 0;
+        self.phase = Phase::Inputs { told: 0 };
         self.records = 1;
         Ok(Entry::Header(header))
     }
 
     // Takes the next input; after the last come the gates.
-    fn input(&mut self, source: &Record) -> Result<Entry, Fault>
-        requires phase { self.old.phase ≡ Phase.Inputs }
+    fn input(&mut self, told: usize, source: &Record) -> Result<Entry, Fault>
+        requires phase { self.old.phase ≡ Phase.Inputs told }
         requires letter { source.now.letter ≡ 73 }
         ensures { Answers self.old self.new (whole source.now) source.now.number fields_tests result }
     {
-        let line = self.told + 1;
+        let line = told + 1;
         source.input(line)?;
         let phase = if line == self.draft.inputs() {
             Phase::Gates
         } else {
-            Phase::Inputs
+            Phase::Inputs { told: line }
         };
         self.phase = phase;
-        self.told = line;
         self.records += 1;
         Ok(Entry::Input(line))
     }
@@ -131,7 +128,7 @@ impl DeckReader {
         };
         match (self.phase, *letter) {
             (Phase::Header, b'N') => self.header(&source),
-            (Phase::Inputs, b'I') => self.input(&source),
+            (Phase::Inputs { told }, b'I') => self.input(told, &source),
             (Phase::Gates, b'G') => self.gate(&source),
             (Phase::Outputs, b'O') => self.output(&source),
             (Phase::End, b'E') => self.end(&source),

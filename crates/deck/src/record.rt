@@ -28,7 +28,7 @@ struct Span {
     ghost narrow: { width ≤ 19 },
 }
 
-// The line of a record's input, gate or output.
+// The line of an input, a gate or an output.
 const LINE: Span = Span { first: 2, width: 4 };
 
 // How many inputs, gates and outputs a header tells.
@@ -198,7 +198,7 @@ impl<'a> Record<'a> {
         let delay = self.number(DELAY, 1..=Draft::MOST_DELAY as u64)?;
         let reads = self.reads(count, lines)?;
         if !kind.takes(count) {
-            return Err(self.fault(Refusal::Kind, Layer::Record, KIND.first));
+            return Err(self.fault(Refusal::Kind, Layer::Record, 6));
         }
         Ok(GateRow {
             kind,

@@ -42,7 +42,7 @@ module _ (r : List ℕ) (at line lines n : ℕ) (f : Fault) (long-fits : Passes 
     from_delay bad = from_kind (failed_after r at kind_known after_kind f (k, kind-shown) bad)
 
     from_reads : (d : ℕ) → Shows r 10 5 d × (1 ≤ d) × (d ≤ 65535) → Failed r at after_delay f → Failed r at (fields_tests (gate_next line lines) n) f
-    from_reads d shown bad = from_delay (failed_right r at (number_tests 10 5 1 65535) after_delay f (number_pass r 10 5 1 65535 d shown.0 shown.1 shown.2) bad)
+    from_reads d shown bad = from_delay (failed_right r at (number_tests 10 5 1 65535) after_delay f (number_pass r 10 5 1 65535 d shown.0 (shown.1, shown.2)) bad)
 
 pub returns-in_err-turn : goal.returns-in_err-turn
 returns-in_err-turn c =

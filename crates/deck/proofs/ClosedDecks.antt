@@ -9,12 +9,12 @@ use Rattle.netlist.specs.Judging.Judged.{missing, free, sound}
 use Rattle.netlist.specs.Walks.{no_gate}
 use Rattle.deck.specs.Closing.{Sound, FreeFault, Refused, unread, unreached, ClosedOutcome, Passed}
 use Rattle.deck.specs.Faults.{Told}
-use Rattle.deck.specs.Outcomes.{FirstFault, Deck, Answer, used, fault, answer_of, Outcome}
+use Rattle.deck.specs.Outcomes.{Deck, Answer, used, fault, answer_of, Outcome}
 use Rattle.deck.specs.Progress.{rows, over}
 use Rattle.deck.specs.Rows.{gate, end, input_rows, gate_rows, output_rows}
 use Rattle.deck.specs.declared.fault.Fault.{Fault}
 use Rattle.deck.proofs.Taking.{length-input_rows, length-gate_rows}
-use Rattle.deck.proofs.Unique.{outcome_unique}
+use Rattle.deck.proofs.Unique.{deck_no_fault, outcome_unique}
 
 gate_row_at : (n : ℕ) (gs : List Gate) (k : ℕ) → k < length gs → get_or (gate_rows n gs) k end ≡ gate (n + k) (get_or gs k no_gate)
 gate_row_at n [] k within = absurd (omega arith)
@@ -73,13 +73,6 @@ free_one c d f g same a b =
     let b' = subst (λ x. FreeFault x g) (sym same) b in
     a.is ∙ ap (λ n. record { number = 9; layer = 78; at = suc n; column = 1 }) (lowest_one c a.line b'.line a.free b'.free) ∙ sym b'.is
 
--- a deck that is read and one that is not are not one
-not_both : (bytes : List ℕ) (n : ℕ) (s : Sheet) (f : Told) → Deck bytes n s → FirstFault bytes f → ⊥
-not_both bytes n s f deck first =
-    let same = (outcome_unique bytes (used n) (fault f) s dead deck (first, refl)).0 in
-    let z : ◌≡◌ {A = ℕ} 0 1 = cc in
-    omega arith
-
 drafts_one : (bytes : List ℕ) (m n : ℕ) (s t : Sheet) → Deck bytes m s → Deck bytes n t → (m ≡ n) × (s ≡ t)
 drafts_one bytes m n s t a b =
     let same = outcome_unique bytes (used m) (used n) s t a b in
@@ -90,13 +83,13 @@ refused_one : (bytes : List ℕ) (f g : Told) → Refused bytes f → Refused by
 refused_one bytes f g (unread a) (unread b) =
     let same = (outcome_unique bytes (fault f) (fault g) dead dead (a, refl) (b, refl)).0 in
     cc
-refused_one bytes f g (unread a) (unreached b) = absurd (not_both bytes b.count b.draft f b.deck a)
-refused_one bytes f g (unreached a) (unread b) = absurd (not_both bytes a.count a.draft g a.deck b)
+refused_one bytes f g (unread a) (unreached b) = absurd (deck_no_fault bytes b.count b.draft f b.deck a)
+refused_one bytes f g (unreached a) (unread b) = absurd (deck_no_fault bytes a.count a.draft g a.deck b)
 refused_one bytes f g (unreached a) (unreached b) =
     free_one _ _ f g (ap (λ (s : Sheet). s.circuit) (drafts_one bytes _ _ _ _ a.deck b.deck).1) a.fault b.fault
 
 sound_refused : (bytes : List ℕ) (n : ℕ) (c : Circuit) (f : Told) → Sound bytes n c → Refused bytes f → ⊥
-sound_refused bytes n c f a (unread b) = not_both bytes n a.draft f a.deck b
+sound_refused bytes n c f a (unread b) = deck_no_fault bytes n a.draft f a.deck b
 sound_refused bytes n c f a (unreached b) =
     let same = ap (λ (s : Sheet). s.circuit) (drafts_one bytes _ _ _ _ a.deck b.deck).1 in
     below_all b.draft.circuit b.fault.line b.fault.free (subst AllReached (a.same ∙ same) a.reached)

@@ -1,5 +1,5 @@
 -- The first of a list of tests that a record fails.
-use Rattle.std.proofs.Common.{◌≡◌, ℕ, zero, suc, ◌+◌, ◌*◌, ◌<◌, ◌≤◌, List, [], ◌∷◌, ◌++◌, get_or, refl, subst, inl, inr, ⊎_elim, arith}
+use Rattle.std.proofs.Common.{◌≡◌, ℕ, zero, suc, ◌+◌, ◌*◌, ◌<◌, ◌≤◌, List, [], ◌∷◌, ◌++◌, get_or, refl, subst, subst₂, inl, inr, ⊎_elim, arith}
 use Rattle.std.specs.List.{AllByRecursion}
 use Rattle.std.proofs.ByRecursion.{All-append}
 use Rattle.std.proofs.lemmas.Bool.{cases_lt}
@@ -27,8 +27,12 @@ failed_one r at t ts f bad = record { test = t; first = inl (refl, bad.fails); i
 pub failed_after : (r : List ℕ) (at : ℕ) (t : Test) (ts : List Test) (f : Fault) → Passes r t → Failed r at ts f → Failed r at (t ∷ ts) f
 failed_after r at t ts f pass bad = failed_right r at (t ∷ []) ts f (pass, tt) bad
 
-pub number_pass : (r : List ℕ) (column width least most n : ℕ) → Shows r column width n → least ≤ n → n ≤ most → AllByRecursion (Passes r) (number_tests column width least most)
-number_pass r column width least most n shown low high = ((n, shown), ((n, shown, low, high), tt))
+pub number_pass : (r : List ℕ) (column width least most n : ℕ) → Shows r column width n → (least ≤ n) × (n ≤ most) → AllByRecursion (Passes r) (number_tests column width least most)
+number_pass r column width least most n shown within = ((n, shown), ((n, shown, within.0, within.1), tt))
+
+-- the tests of a number whose limits are told by other names
+pub limits_are : (r : List ℕ) (at column width : ℕ) {a b : ℕ} (least most : ℕ) (f : Fault) → a ≡ least → b ≡ most → Failed r at (number_tests column width a b) f → Failed r at (number_tests column width least most) f
+limits_are r at column width least most f from to bad = subst₂ (λ l m. Failed r at (number_tests column width l m) f) from to bad
 
 pub line_pass : (r : List ℕ) (column width n : ℕ) → Shows r column width n → AllByRecursion (Passes r) (line_tests column width n)
 line_pass r column width n shown = ((n, shown), (shown, tt))
@@ -39,7 +43,7 @@ reads_pass r lines zero ns shown = tt
 reads_pass r lines (suc k) ns shown =
     let here = shown k (omega arith) in
     All-append (Passes r) (reads_tests lines k) _ (reads_pass r lines k ns (λ i below. shown i (omega arith)))
-    ((get_or ns k 0, here.0), ((get_or ns k 0, here.0, here.1, here.2), tt))
+    (number_pass r (15 + 4 * k) 4 1 lines (get_or ns k 0) here.0 (here.1, here.2))
 
 pub reads_failed : (r : List ℕ) (at lines place count : ℕ) (f : Fault) → place < count → AllByRecursion (Passes r) (reads_tests lines place) → Failed r at (number_tests (15 + 4 * place) 4 1 lines) f → Failed r at (reads_tests lines count) f
 reads_failed r at lines place zero f below pass bad = absurd (omega arith)

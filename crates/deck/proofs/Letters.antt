@@ -1,9 +1,9 @@
 -- The letter of a record is tested first, against the letter that is expected.
-use Rattle.std.proofs.Common.{◌≡◌, ℕ, suc, List, [], ◌∷◌, length, get_or, Result, sym, refl, ap, ◌∙◌, subst, arith, MatchResult}
+use Rattle.std.proofs.Common.{◌≡◌, ℕ, suc, List, [], ◌∷◌, length, get_or, Result, sym, refl, ap, ◌∙◌, subst, arith}
 use Rattle.std.proofs.lemmas.Result.{MatchResult-weaker}
 use Rattle.deck.specs.Faults.{told}
 use Rattle.deck.specs.Progress.{Expected, header_next, input_next, gate_next, output_next, end_next, nothing_next, expected, rows}
-use Rattle.deck.specs.Readers.{progress_of, Took}
+use Rattle.deck.specs.Readers.{progress_of, Took, Answers}
 use Rattle.deck.specs.Records.{Failed, fields_tests}
 use Rattle.deck.specs.Tests.{Test, letter, out_of_order, tests, Passes, fault_of}
 use Rattle.deck.specs.declared.entry.Entry.{Entry}
@@ -56,7 +56,7 @@ right_letter : (e : Expected) (r : List ℕ) (at n : ℕ) (f : Fault) → Passes
 right_letter e r at n f pass bad = subst (λ ts. Failed r at ts f) (letter_first e n) (failed_after r at (letter_of e) _ f pass bad)
 
 -- what a row's own reader answers, as the answer for the whole record
-pub by_letter : (d t : DeckReader) (bytes fields : List ℕ) (at b : ℕ) (x : Result Entry Fault) → bytes ≡ get_or bytes 0 0 ∷ fields → at ≡ suc (length (rows (progress_of d))) → get_or bytes 0 0 ≡ b → letter_of (expected (progress_of d)) ≡ letter b → MatchResult x (λ e. Took d t (get_or bytes 0 0 ∷ fields) e) (λ f. Failed (get_or bytes 0 0 ∷ fields) at (fields_tests (expected (progress_of d)) (suc (length fields))) f × (t ≡ d)) → MatchResult x (λ e. Took d t bytes e) (λ f. Failed bytes (suc (length (rows (progress_of d)))) (tests (expected (progress_of d)) (length bytes)) f × (t ≡ d))
+pub by_letter : (d t : DeckReader) (bytes fields : List ℕ) (at b : ℕ) (x : Result Entry Fault) → bytes ≡ get_or bytes 0 0 ∷ fields → at ≡ suc (length (rows (progress_of d))) → get_or bytes 0 0 ≡ b → letter_of (expected (progress_of d)) ≡ letter b → Answers d t (get_or bytes 0 0 ∷ fields) at fields_tests x → Answers d t bytes (suc (length (rows (progress_of d)))) tests x
 by_letter d t bytes fields at b x split place begins expects answered =
     let pass : Passes bytes (letter_of (expected (progress_of d))) = subst (Passes bytes) (sym expects) (fields, split ∙ ap (λ c. c ∷ fields) begins) in
     MatchResult-weaker x answered (λ e took. subst (λ r. Took d t r e) (sym split) took)

@@ -1,18 +1,20 @@
 -- The text of a row that follows passes every test, and of a record that fails there is one first test.
-use Rattle.std.proofs.Common.{◌≡◌, ℕ, zero, suc, ◌+◌, ◌*◌, ◌≤◌, true, List, [], ◌∷◌, length, get_or, sym, refl, ap, ◌∙◌, inl, inr, arith}
+use Rattle.std.proofs.Common.{◌≡◌, ℕ, zero, suc, ◌+◌, ◌*◌, ◌≤◌, true, List, [], ◌∷◌, ◌++◌, length, get_or, sym, refl, ap, ◌∙◌, inl, inr, arith}
 use Rattle.std.specs.List.{AllByRecursion}
 use Rattle.std.proofs.ByRecursion.{All-append}
 use Rattle.std.proofs.lemmas.Bool.{eqb-true}
 use Rattle.netlist.specs.declared.kind.Kind.{Kind}
 use Rattle.netlist.specs.declared.kind.Kind.TheVariants.{Buf, Not, And, Or, Xor, Nand, Nor, Xnor}
-use Rattle.netlist.specs.Gates.{Gate, fits, in_range, on_lines}
+use Rattle.netlist.specs.Gates.{Gate, fits, in_range}
 use Rattle.netlist.proofs.Ranges.{bounds}
 use Rattle.netlist.proofs.Tables.{every_at}
 use Rattle.deck.specs.Progress.{Expected, gate_next}
-use Rattle.deck.specs.Rows.{Row, gate, text}
-use Rattle.deck.specs.Tests.{Test, figure, turn, range, kind_takes, Shows, Passes, FirstFailed, tests, number_tests, reads_tests, reads_count, has}
+use Rattle.deck.specs.Records.{ReadsShown}
+use Rattle.deck.specs.Rows.{Row, header, gate, text}
+use Rattle.deck.specs.Tests.{Test, kind_known, kind_takes, Passes, FirstFailed, tests, number_tests, line_tests, reads_tests, reads_count, has}
+use Rattle.deck.proofs.Failing.{number_pass, line_pass, reads_pass}
 use Rattle.deck.proofs.Following.{Follows, a_header, an_input, a_gate, an_output, an_end, limited}
-use Rattle.deck.proofs.Texts.{Fields, Says, says_text, Gated, gated}
+use Rattle.deck.proofs.Texts.{Says, says_text, Gated, gated}
 
 pub none_failed : (r : List ℕ) (ts : List Test) (t : Test) → AllByRecursion (Passes r) ts → FirstFailed r ts t → ⊥
 none_failed r [] t all first = first
@@ -25,13 +27,6 @@ first_failed_one r (v ∷ vs) t u (inl a) (inl b) = a.0 ∙ sym b.0
 first_failed_one r (v ∷ vs) t u (inl a) (inr b) = absurd (a.1 b.0)
 first_failed_one r (v ∷ vs) t u (inr a) (inl b) = absurd (b.1 a.0)
 first_failed_one r (v ∷ vs) t u (inr a) (inr b) = first_failed_one r vs t u a.1 b.1
-
--- with what is passed after them, the tests of a number, and of the line whose turn it is
-number_passes : {R : Type 0} (r : List ℕ) (c w least most n : ℕ) → Shows r c w n → (least ≤ n) × (n ≤ most) → R → Passes r (figure c w) × (Passes r (range c w least most) × R)
-number_passes r c w least most n shows within rest = ((n, shows), ((n, shows, within.0, within.1), rest))
-
-line_passes : {R : Type 0} (r : List ℕ) (c w n : ℕ) → Shows r c w n → R → Passes r (figure c w) × (Passes r (turn c w n) × R)
-line_passes r c w n shows rest = ((n, shows), (shows, rest))
 
 count_fits : (k : Kind) (n : ℕ) → fits k n ≡ true → (1 ≤ n) × (n ≤ 4)
 count_fits Buf n e = omega (arith, eqb-true n 1 e)
@@ -51,46 +46,46 @@ gate_long (suc (suc (suc zero))) low high = refl
 gate_long (suc (suc (suc (suc zero)))) low high = refl
 gate_long (suc (suc (suc (suc (suc n))))) low high = absurd (omega arith)
 
-reads_pass : (r : List ℕ) (m : ℕ) (ls : List ℕ) → Fields r 14 ls → on_lines m ls ≡ true → (k : ℕ) → k ≤ length ls → AllByRecursion (Passes r) (reads_tests m k)
-reads_pass r m ls fields fine zero within = tt
-reads_pass r m ls fields fine (suc k) within =
-    All-append (Passes r) (reads_tests m k) (number_tests (15 + 4 * k) 4 1 m) (reads_pass r m ls fields fine k (omega arith))
-    (number_passes r (15 + 4 * k) 4 1 m (get_or ls k 0) (fields.each k within) (bounds 1 m (get_or ls k 0) (every_at (in_range 1 m) ls k 0 fine within)) tt)
-
 gate_passes : (n m : ℕ) (g : Gate) → Gated m g → Says (text (gate n g)) (gate n g) → AllByRecursion (Passes (text (gate n g))) (tests (gate_next n m) (length (text (gate n g))))
 gate_passes n m g parts a =
     let t = text (gate n g) in
     let long = a.0.long in
     let few = count_fits g.kind _ parts.fitting in
     let k = reads_count (length t) in
-    let count : k ≡ length g.reads = omega arith in (
+    let count : k ≡ length g.reads = omega arith in
+    let shown : ReadsShown t m k g.reads = λ i below. let line = bounds 1 m (get_or g.reads i 0) (every_at (in_range 1 m) g.reads i 0 parts.on (omega arith)) in (a.0.each i (omega arith), line.0, line.1) in
+    let last = kind_takes k ∷ [] in
+    let from_reads = reads_tests m k ++ last in
+    let from_delay = number_tests 10 5 1 65535 ++ from_reads in (
       (_, refl),
       (
         ap (λ n. has n (18 ∷ 22 ∷ 26 ∷ 30 ∷ [])) long ∙ gate_long _ few.0 few.1,
-        line_passes t 2 4 n a.1 (
+        All-append (Passes t) (line_tests 2 4 n) (kind_known ∷ from_delay) (line_pass t 2 4 n a.1) (
           (g.kind, a.2),
-          number_passes t 10 5 1 65535 g.delay a.3 parts.delayed
-              (All-append (Passes t) (reads_tests m k) (kind_takes k ∷ [])
-              (reads_pass t m g.reads a.0 parts.on k (omega arith)) ((g.kind, a.2, ap (fits g.kind) count ∙ parts.fitting), tt)),
+          All-append (Passes t) (number_tests 10 5 1 65535) from_reads (number_pass t 10 5 1 65535 g.delay a.3 parts.delayed)
+              (All-append (Passes t) (reads_tests m k) last (reads_pass t m k g.reads shown)
+              ((g.kind, a.2, ap (fits g.kind) count ∙ parts.fitting), tt)),
         ),
       ),
     )
 
 said_passes : (e : Expected) (r : Row) → Follows e r → Says (text r) r → AllByRecursion (Passes (text r)) (tests e (length (text r)))
 said_passes _ _ (a_header {i} {g} {o} l) a =
-    let limits = limited i g o l in (
+    let limits = limited i g o l in
+    let t = text (header i g o) in
+    let outputs = number_tests 10 4 1 256 in (
       (_, refl),
       (
         ap (λ n. has n (13 ∷ [])) a.long,
-        number_passes _ 2 4 1 256 i (a.each 0 (omega arith)) limits.inputs
-            (number_passes _ 6 4 1 768 g (a.each 1 (omega arith)) limits.gates
-            (number_passes _ 10 4 1 256 o (a.each 2 (omega arith)) limits.outputs tt)),
+        All-append (Passes t) (number_tests 2 4 1 256) (number_tests 6 4 1 768 ++ outputs) (number_pass t 2 4 1 256 i (a.each 0 (omega arith)) limits.inputs)
+            (All-append (Passes t) (number_tests 6 4 1 768) outputs (number_pass t 6 4 1 768 g (a.each 1 (omega arith)) limits.gates)
+            (number_pass t 10 4 1 256 o (a.each 2 (omega arith)) limits.outputs)),
       ),
     )
-said_passes _ _ (an_input {n} l) a = ((_, refl), (ap (λ n. has n (5 ∷ [])) a.long, line_passes _ 2 4 n (a.each 0 (omega arith)) tt))
+said_passes _ _ (an_input {n} l) a = ((_, refl), (ap (λ n. has n (5 ∷ [])) a.long, line_pass _ 2 4 n (a.each 0 (omega arith))))
 said_passes _ _ (a_gate {n} {m} {g} k l fine) a = gate_passes n m g (gated m g l fine) a
 said_passes _ _ (an_output {m} {n} l fine) a =
-    ((_, refl), (ap (λ n. has n (5 ∷ [])) a.long, number_passes _ 2 4 1 m n (a.each 0 (omega arith)) (bounds 1 m n fine) tt))
+    ((_, refl), (ap (λ n. has n (5 ∷ [])) a.long, number_pass _ 2 4 1 m n (a.each 0 (omega arith)) (bounds 1 m n fine)))
 said_passes _ _ an_end a = ((_, refl), (refl, tt))
 
 pub follows_passes : (e : Expected) (r : Row) → Follows e r → AllByRecursion (Passes (text r)) (tests e (length (text r)))

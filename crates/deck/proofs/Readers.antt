@@ -37,33 +37,33 @@ module _ (d : Draft) (told : ℕ) where
         gates_first = λ some. gates ∙ next (omega arith);
       }
 
+begun_whole : (d : Draft) → agrees End (sheet d) ≡ true → Begun (sheet d) d.inputs
+begun_whole d e =
+    let t = ending (sheet d) e in
+    let gates = drawn_is d in
+    begun d d.inputs t.limits (omega arith) (λ some. refl) (λ some. omega arith)
+
 -- by phase: told, drawn and named are within their limits
-legal_in : (phase : Phase) (told : ℕ) (d : Draft) → agrees phase told (sheet d) ≡ true → Legal (progress phase told (sheet d))
-legal_in Header told d e = tt
-legal_in Inputs told d e =
+legal_in : (phase : Phase) (d : Draft) → agrees phase (sheet d) ≡ true → Legal (progress phase (sheet d))
+legal_in Header d e = tt
+legal_in (Inputs told) d e =
     let t = telling (sheet d) told e in
     let gates = drawn_is d in
     let outputs = named_is d in
     begun d told t.limits (omega arith) (λ some. absurd (omega arith)) (λ some. absurd (omega arith))
-legal_in Gates told d e =
-    let t = drawing (sheet d) told e in
+legal_in Gates d e =
+    let t = drawing (sheet d) e in
     let outputs = named_is d in
-    begun d told t.limits (omega arith) (λ some. t.all_told) (λ some. absurd (omega arith))
-legal_in Outputs told d e =
-    let t = naming (sheet d) told e in
+    begun d d.inputs t.limits (omega arith) (λ some. refl) (λ some. absurd (omega arith))
+legal_in Outputs d e =
+    let t = naming (sheet d) e in
     let gates = drawn_is d in
-    begun d told t.limits (omega arith) (λ some. t.all_told) (λ some. omega arith)
-legal_in End told d e =
-    let t = ending (sheet d) told e in
-    let gates = drawn_is d in
-    begun d told t.limits (omega arith) (λ some. t.all_told) (λ some. omega arith)
-legal_in Done told d e =
-    let t = ending (sheet d) told e in
-    let gates = drawn_is d in
-    record { begun = begun d d.inputs t.limits (omega arith) (λ some. refl) (λ some. omega arith); all_there = all_there (sheet d) told t }
+    begun d d.inputs t.limits (omega arith) (λ some. refl) (λ some. omega arith)
+legal_in End d e = begun_whole d e
+legal_in Done d e = record { begun = begun_whole d e; all_there = all_there (sheet d) (ending (sheet d) e) }
 
 pub reader_legal : (d : DeckReader) → Legal (progress_of d)
-reader_legal d = legal_in d.phase d.told d.draft d.phased
+reader_legal d = legal_in d.phase d.draft d.phased
 
 few_begun : (d : Draft) (told : ℕ) → told ≤ d.inputs → length (rows_begun (sheet d) told) ≤ 1281
 few_begun d told few =
@@ -72,103 +72,100 @@ few_begun d told few =
     let outputs = named_is d in
     omega arith
 
-few_in : (phase : Phase) (told : ℕ) (d : Draft) → agrees phase told (sheet d) ≡ true → length (rows (progress phase told (sheet d))) ≤ 1282
-few_in Header told d e = omega arith
-few_in Inputs told d e = omega (arith, few_begun d told (legal_in Inputs told d e).inputs_few)
-few_in Gates told d e = omega (arith, few_begun d told (legal_in Gates told d e).inputs_few)
-few_in Outputs told d e = omega (arith, few_begun d told (legal_in Outputs told d e).inputs_few)
-few_in End told d e = omega (arith, few_begun d told (legal_in End told d e).inputs_few)
-few_in Done told d e =
+few_in : (phase : Phase) (d : Draft) → agrees phase (sheet d) ≡ true → length (rows (progress phase (sheet d))) ≤ 1282
+few_in Header d e = omega arith
+few_in (Inputs told) d e = omega (arith, few_begun d told (legal_in (Inputs told) d e).inputs_few)
+few_in Gates d e = omega (arith, few_begun d d.inputs (omega arith))
+few_in Outputs d e = omega (arith, few_begun d d.inputs (omega arith))
+few_in End d e = omega (arith, few_begun d d.inputs (omega arith))
+few_in Done d e =
     let longer = length-append (rows_begun (sheet d) d.inputs) (end ∷ []) in
     omega (arith, few_begun d d.inputs (omega arith))
 
 pub few_records : (d : DeckReader) → d.records ≤ 1282
-few_records d = rw d.counted (few_in d.phase d.told d.draft d.phased)
+few_records d = rw d.counted (few_in d.phase d.draft d.phased)
 
 -- what is known of a reader in a phase
 module _ (d : DeckReader) (p : Phase) (e : d.phase ≡ p) where
-  agrees_in : agrees p d.told (sheet d.draft) ≡ true
-  agrees_in = subst (λ q. agrees q d.told (sheet d.draft) ≡ true) e d.phased
+  agrees_in : agrees p (sheet d.draft) ≡ true
+  agrees_in = subst (λ q. agrees q (sheet d.draft) ≡ true) e d.phased
 
-  progress_in : progress_of d ≡ progress p d.told (sheet d.draft)
-  progress_in = ap (λ q. progress q d.told (sheet d.draft)) e
+  progress_in : progress_of d ≡ progress p (sheet d.draft)
+  progress_in = ap (λ q. progress q (sheet d.draft)) e
 
 pub counted_more : (d : DeckReader) (rs : List Row) (r : Row) → rs ≡ rows (progress_of d) ++ (r ∷ []) → d.records + 1 ≡ length rs
 counted_more d rs r more = let longer = length-append (rows (progress_of d)) (r ∷ []) in omega (arith, ap length more, d.counted)
 
 -- the phase p holds of the draft, and the reader's rows have grown by one
-pub record Stands (d : DeckReader) (p : Phase) (told : ℕ) (s : Sheet) (r : Row) : Type 0 where
-  pub agreed : agrees p told s ≡ true
-  pub grown : rows (progress p told s) ≡ rows (progress_of d) ++ (r ∷ [])
+pub record Stands (d : DeckReader) (p : Phase) (s : Sheet) (r : Row) : Type 0 where
+  pub agreed : agrees p s ≡ true
+  pub grown : rows (progress p s) ≡ rows (progress_of d) ++ (r ∷ [])
 
-module _ (d : DeckReader) (e : d.phase ≡ Inputs) where
-  at_inputs : Telling (sheet d.draft) d.told
-  at_inputs = telling _ _ (agrees_in d Inputs e)
+module _ (d : DeckReader) (told : ℕ) (e : d.phase ≡ Inputs told) where
+  at_inputs : Telling (sheet d.draft) told
+  at_inputs = telling _ told (agrees_in d (Inputs told) e)
 
-  pub reader_expects_input : expected (progress_of d) ≡ input_next (d.told + 1)
-  reader_expects_input = ap expected (progress_in d Inputs e) ∙ expects_input _ _ at_inputs ∙ ap input_next (sym (add-one d.told))
+  pub reader_expects_input : expected (progress_of d) ≡ input_next (told + 1)
+  reader_expects_input = ap expected (progress_in d (Inputs told) e) ∙ expects_input _ told at_inputs ∙ ap input_next (sym (add-one told))
 
-  input_grown : rows (going (sheet d.draft) (d.told + 1)) ≡ rows (progress_of d) ++ (input (d.told + 1) ∷ [])
+  input_grown : rows (going (sheet d.draft) (told + 1)) ≡ rows (progress_of d) ++ (input (told + 1) ∷ [])
   input_grown =
-      subst (λ n. rows (going (sheet d.draft) n) ≡ rows (progress_of d) ++ (input n ∷ [])) (sym (add-one d.told))
-      (rows_input (sheet d.draft) d.told at_inputs.no_gates at_inputs.no_outputs ∙ ap (λ p. rows p ++ (input (suc d.told) ∷ [])) (sym (progress_in d Inputs e)))
+      subst (λ n. rows (going (sheet d.draft) n) ≡ rows (progress_of d) ++ (input n ∷ [])) (sym (add-one told))
+      (rows_input (sheet d.draft) told at_inputs.no_gates at_inputs.no_outputs ∙ ap (λ p. rows p ++ (input (suc told) ∷ [])) (sym (progress_in d (Inputs told) e)))
 
-  last_input : d.told + 1 ≡ d.draft.inputs → Stands d Gates (d.told + 1) (sheet d.draft) (input (d.told + 1))
+  last_input : told + 1 ≡ d.draft.inputs → Stands d Gates (sheet d.draft) (input (told + 1))
   last_input last =
       let t = at_inputs in
       let l = limited-by d.draft.inputs d.draft.gates d.draft.outputs t.limits in
-      record { agreed = agrees_drawing (sheet d.draft) (d.told + 1) (record { limits = t.limits; all_told = last; few = omega arith; no_outputs = t.no_outputs }); grown = input_grown }
+      record { agreed = agrees_drawing (sheet d.draft) (record { limits = t.limits; few = omega arith; no_outputs = t.no_outputs }); grown = ap (λ n. rows (going (sheet d.draft) n)) (sym last) ∙ input_grown }
 
-  next_input : (d.told + 1 ≡ d.draft.inputs → ⊥) → Stands d Inputs (d.told + 1) (sheet d.draft) (input (d.told + 1))
+  next_input : (told + 1 ≡ d.draft.inputs → ⊥) → Stands d (Inputs (told + 1)) (sheet d.draft) (input (told + 1))
   next_input more =
       let t = at_inputs in
-      record { agreed = agrees_telling (sheet d.draft) (d.told + 1) (record { limits = t.limits; early = omega arith; no_gates = t.no_gates; no_outputs = t.no_outputs }); grown = input_grown }
+      record { agreed = agrees_telling (sheet d.draft) (told + 1) (record { limits = t.limits; early = omega arith; no_gates = t.no_gates; no_outputs = t.no_outputs }); grown = input_grown }
 
-  pub input_stands : (p : Phase) → ((d.told + 1 ≡ d.draft.inputs) × (p ≡ Gates)) ⊎ ((d.told + 1 ≡ d.draft.inputs → ⊥) × (p ≡ Inputs)) → Stands d p (d.told + 1) (sheet d.draft) (input (d.told + 1))
+  pub input_stands : (p : Phase) → ((told + 1 ≡ d.draft.inputs) × (p ≡ Gates)) ⊎ ((told + 1 ≡ d.draft.inputs → ⊥) × (p ≡ Inputs (told + 1))) → Stands d p (sheet d.draft) (input (told + 1))
   input_stands p way =
-      let At : Phase → Type 0 = λ q. Stands d q (d.told + 1) (sheet d.draft) (input (d.told + 1)) in
+      let At : Phase → Type 0 = λ q. Stands d q (sheet d.draft) (input (told + 1)) in
       ⊎_elim (λ last. subst At (sym last.1) (last_input last.0)) (λ more. subst At (sym more.1) (next_input more.0)) way
 
 module _ (d : DeckReader) (e : d.phase ≡ Gates) where
-  at_gates : Drawing (sheet d.draft) d.told
-  at_gates = drawing _ _ (agrees_in d Gates e)
+  at_gates : Drawing (sheet d.draft)
+  at_gates = drawing _ (agrees_in d Gates e)
 
   gate_is_next : takes_gate (sheet d.draft) ≡ true
   gate_is_next = lt-ltb _ _ at_gates.few
 
   pub reader_expects_gate : expected (progress_of d) ≡ gate_next (suc (d.draft.inputs + length (sheet d.draft).circuit.gates)) (lines (sheet d.draft))
-  reader_expects_gate = ap expected (progress_in d Gates e) ∙ expects_gate _ _ at_gates
+  reader_expects_gate = ap expected (progress_in d Gates e) ∙ expects_gate _ at_gates
 
   module _ (g : Gate) (t : Draft) (is : sheet t ≡ with_gate (sheet d.draft) g) where
-    gate_grown : rows (going (sheet t) d.told) ≡ rows (progress_of d) ++ (gate (suc (d.draft.inputs + length (sheet d.draft).circuit.gates)) g ∷ [])
+    gate_grown : rows (going (sheet t) t.inputs) ≡ rows (progress_of d) ++ (gate (suc (d.draft.inputs + length (sheet d.draft).circuit.gates)) g ∷ [])
     gate_grown =
-        ap (λ s. rows (going s d.told)) is ∙ rows_gate (sheet d.draft) d.told g at_gates.no_outputs ∙ ap (λ p. rows p ++ (gate (suc (d.draft.inputs + length (sheet d.draft).circuit.gates)) g ∷ [])) (sym (progress_in d Gates e))
+        ap (λ (s : Sheet). rows (going s s.circuit.inputs)) is ∙ rows_gate (sheet d.draft) d.draft.inputs g at_gates.no_outputs ∙ ap (λ p. rows p ++ (gate (suc (d.draft.inputs + length (sheet d.draft).circuit.gates)) g ∷ [])) (sym (progress_in d Gates e))
 
     -- what stays, and one gate more
     limits_stay : limited (sheet t) ≡ true
     limits_stay = ap limited is ∙ at_gates.limits
 
-    inputs_stay : t.inputs ≡ d.draft.inputs
-    inputs_stay = ap (λ (s : Sheet). s.circuit.inputs) is
-
     none_named : length (sheet t).circuit.outputs ≡ 0
     none_named = ap (λ (s : Sheet). length s.circuit.outputs) is ∙ at_gates.no_outputs
 
-    last_gate : takes_gate (sheet t) ≡ false → Stands d Outputs d.told (sheet t) (gate (suc (d.draft.inputs + length (sheet d.draft).circuit.gates)) g)
+    last_gate : takes_gate (sheet t) ≡ false → Stands d Outputs (sheet t) (gate (suc (d.draft.inputs + length (sheet d.draft).circuit.gates)) g)
     last_gate full =
         let l = limited-by t.inputs t.gates t.outputs limits_stay in
         let over = ltb-false _ _ full in
         let drawn = drawn_is t in
         let none = none_named in
-        record { agreed = agrees_naming (sheet t) d.told (record { limits = limits_stay; all_told = at_gates.all_told ∙ sym inputs_stay; all_gates = omega arith; few = omega arith }); grown = gate_grown }
+        record { agreed = agrees_naming (sheet t) (record { limits = limits_stay; all_gates = omega arith; few = omega arith }); grown = gate_grown }
 
-    next_gate : takes_gate (sheet t) ≡ true → Stands d Gates d.told (sheet t) (gate (suc (d.draft.inputs + length (sheet d.draft).circuit.gates)) g)
+    next_gate : takes_gate (sheet t) ≡ true → Stands d Gates (sheet t) (gate (suc (d.draft.inputs + length (sheet d.draft).circuit.gates)) g)
     next_gate more =
-        record { agreed = agrees_drawing (sheet t) d.told (record { limits = limits_stay; all_told = at_gates.all_told ∙ sym inputs_stay; few = ltb-true _ _ more; no_outputs = none_named }); grown = gate_grown }
+        record { agreed = agrees_drawing (sheet t) (record { limits = limits_stay; few = ltb-true _ _ more; no_outputs = none_named }); grown = gate_grown }
 
-    pub gate_stands : (p : Phase) → ((true ≡ takes_gate (sheet t)) × (p ≡ Gates)) ⊎ ((false ≡ takes_gate (sheet t)) × (p ≡ Outputs)) → Stands d p d.told (sheet t) (gate (suc (d.draft.inputs + length (sheet d.draft).circuit.gates)) g)
+    pub gate_stands : (p : Phase) → ((true ≡ takes_gate (sheet t)) × (p ≡ Gates)) ⊎ ((false ≡ takes_gate (sheet t)) × (p ≡ Outputs)) → Stands d p (sheet t) (gate (suc (d.draft.inputs + length (sheet d.draft).circuit.gates)) g)
     gate_stands p way =
-        let At : Phase → Type 0 = λ q. Stands d q d.told (sheet t) (gate (suc (d.draft.inputs + length (sheet d.draft).circuit.gates)) g) in
+        let At : Phase → Type 0 = λ q. Stands d q (sheet t) (gate (suc (d.draft.inputs + length (sheet d.draft).circuit.gates)) g) in
         ⊎_elim (λ more. subst At (sym more.1) (next_gate (sym more.0))) (λ last. subst At (sym last.1) (last_gate (sym last.0))) way
 
   -- the draft takes a legal gate
@@ -176,38 +173,37 @@ module _ (d : DeckReader) (e : d.phase ≡ Gates) where
   gate_added g t r answers adds fine = adds (answers ∙ gate_taken (sheet d.draft) g gate_is_next fine)
 
 module _ (d : DeckReader) (e : d.phase ≡ Outputs) where
-  at_outputs : Naming (sheet d.draft) d.told
-  at_outputs = naming _ _ (agrees_in d Outputs e)
+  at_outputs : Naming (sheet d.draft)
+  at_outputs = naming _ (agrees_in d Outputs e)
 
   output_is_next : takes_output (sheet d.draft) ≡ true
   output_is_next = and_from _ _ (eq-eqb _ _ at_outputs.all_gates) (lt-ltb _ _ at_outputs.few)
 
   pub reader_expects_output : expected (progress_of d) ≡ output_next (lines (sheet d.draft))
-  reader_expects_output = ap expected (progress_in d Outputs e) ∙ expects_output _ _ at_outputs
+  reader_expects_output = ap expected (progress_in d Outputs e) ∙ expects_output _ at_outputs
 
   module _ (n : ℕ) (t : Draft) (is : sheet t ≡ with_output (sheet d.draft) n) where
-    output_grown : rows (going (sheet t) d.told) ≡ rows (progress_of d) ++ (output n ∷ [])
-    output_grown = ap (λ s. rows (going s d.told)) is ∙ rows_output (sheet d.draft) d.told n ∙ ap (λ p. rows p ++ (output n ∷ [])) (sym (progress_in d Outputs e))
+    output_grown : rows (going (sheet t) t.inputs) ≡ rows (progress_of d) ++ (output n ∷ [])
+    output_grown = ap (λ (s : Sheet). rows (going s s.circuit.inputs)) is ∙ rows_output (sheet d.draft) d.draft.inputs n ∙ ap (λ p. rows p ++ (output n ∷ [])) (sym (progress_in d Outputs e))
+
+    limits_kept : limited (sheet t) ≡ true
+    limits_kept = ap limited is ∙ at_outputs.limits
 
     gates_stay : length (sheet t).circuit.gates ≡ t.gates
     gates_stay = ap (λ (s : Sheet). length s.circuit.gates) is ∙ at_outputs.all_gates ∙ sym (ap (λ (s : Sheet). s.gates) is)
 
-    still_told : d.told ≡ t.inputs
-    still_told = at_outputs.all_told ∙ sym (ap (λ (s : Sheet). s.circuit.inputs) is)
+    next_output : takes_output (sheet t) ≡ true → Stands d Outputs (sheet t) (output n)
+    next_output more = record { agreed = and_from _ _ limits_kept more; grown = output_grown }
 
-    next_output : takes_output (sheet t) ≡ true → Stands d Outputs d.told (sheet t) (output n)
-    next_output more =
-        record { agreed = and_from _ _ (and_from _ _ (ap limited is ∙ at_outputs.limits) (eq-eqb _ _ still_told)) more; grown = output_grown }
-
-    last_output : takes_output (sheet t) ≡ false → Stands d End d.told (sheet t) (output n)
+    last_output : takes_output (sheet t) ≡ false → Stands d End (sheet t) (output n)
     last_output full =
         let named = named_is t in
         let over = ⊎_elim (λ no_gates. absurd (both_ways _ no_gates (eq-eqb _ _ gates_stay))) (λ none. ltb-false _ _ none) (and_cases (eqb (length (sheet t).circuit.gates) t.gates) (ltb (length (sheet t).circuit.outputs) t.outputs) full) in
-        record { agreed = agrees_ending (sheet t) d.told (record { limits = ap limited is ∙ at_outputs.limits; all_told = still_told; all_gates = gates_stay; all_outputs = omega arith }); grown = output_grown }
+        record { agreed = agrees_ending (sheet t) (record { limits = limits_kept; all_gates = gates_stay; all_outputs = omega arith }); grown = output_grown }
 
-    pub output_stands : (p : Phase) → ((true ≡ takes_output (sheet t)) × (p ≡ Outputs)) ⊎ ((false ≡ takes_output (sheet t)) × (p ≡ End)) → Stands d p d.told (sheet t) (output n)
+    pub output_stands : (p : Phase) → ((true ≡ takes_output (sheet t)) × (p ≡ Outputs)) ⊎ ((false ≡ takes_output (sheet t)) × (p ≡ End)) → Stands d p (sheet t) (output n)
     output_stands p way =
-        let At : Phase → Type 0 = λ q. Stands d q d.told (sheet t) (output n) in
+        let At : Phase → Type 0 = λ q. Stands d q (sheet t) (output n) in
         ⊎_elim (λ more. subst At (sym more.1) (next_output (sym more.0))) (λ last. subst At (sym last.1) (last_output (sym last.0))) way
 
   -- the draft takes an output on a line
@@ -215,14 +211,11 @@ module _ (d : DeckReader) (e : d.phase ≡ Outputs) where
   output_added n t r answers adds on = adds (answers ∙ output_taken (sheet d.draft) n output_is_next on)
 
 module _ (d : DeckReader) (e : d.phase ≡ End) where
-  at_end : Ending (sheet d.draft) d.told
-  at_end = ending _ _ (agrees_in d End e)
+  at_end : Ending (sheet d.draft)
+  at_end = ending _ (agrees_in d End e)
 
   pub reader_expects_end : expected (progress_of d) ≡ end_next
-  reader_expects_end = ap expected (progress_in d End e) ∙ expects_end _ _ at_end
+  reader_expects_end = ap expected (progress_in d End e) ∙ expects_end _ at_end
 
-  pub ends : Stands d Done d.told (sheet d.draft) end
-  ends = record {
-    agreed = agrees_in d End e;
-    grown = ap (λ n. rows_begun (sheet d.draft) n ++ (end ∷ [])) (sym at_end.all_told) ∙ ap (λ p. rows p ++ (end ∷ [])) (sym (progress_in d End e));
-  }
+  pub ends : Stands d Done (sheet d.draft) end
+  ends = record { agreed = agrees_in d End e; grown = ap (λ p. rows p ++ (end ∷ [])) (sym (progress_in d End e)) }

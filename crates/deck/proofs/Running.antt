@@ -47,16 +47,16 @@ took_within d t bytes k took =
     omega (arith, ap length took.spelling, took.count)
 
 -- only the last phase is past the end
-over_done : (p : Phase) (told : ℕ) (s t : Sheet) → progress p told s ≡ over t → p ≡ Done
-over_done Header told s t e = absurd (let z : ◌≡◌ {A = ℕ} 0 1 = cc in omega arith)
-over_done Inputs told s t e = absurd (let z : ◌≡◌ {A = ℕ} 0 1 = cc in omega arith)
-over_done Gates told s t e = absurd (let z : ◌≡◌ {A = ℕ} 0 1 = cc in omega arith)
-over_done Outputs told s t e = absurd (let z : ◌≡◌ {A = ℕ} 0 1 = cc in omega arith)
-over_done End told s t e = absurd (let z : ◌≡◌ {A = ℕ} 0 1 = cc in omega arith)
-over_done Done told s t e = refl
+over_done : (p : Phase) (s t : Sheet) → progress p s ≡ over t → p ≡ Done
+over_done Header s t e = absurd (let z : ◌≡◌ {A = ℕ} 0 1 = cc in omega arith)
+over_done (Inputs told) s t e = absurd (let z : ◌≡◌ {A = ℕ} 0 1 = cc in omega arith)
+over_done Gates s t e = absurd (let z : ◌≡◌ {A = ℕ} 0 1 = cc in omega arith)
+over_done Outputs s t e = absurd (let z : ◌≡◌ {A = ℕ} 0 1 = cc in omega arith)
+over_done End s t e = absurd (let z : ◌≡◌ {A = ℕ} 0 1 = cc in omega arith)
+over_done Done s t e = refl
 
 pub unfinished : (d : DeckReader) → (d.phase ≡ Done → ⊥) → Unfinished d
-unfinished d not_done s e = not_done (over_done d.phase d.told (sheet d.draft) s e)
+unfinished d not_done s e = not_done (over_done d.phase (sheet d.draft) s e)
 
 pub faulted : (d : DeckReader) (bytes : List ℕ) (used : ℕ) (f : Told) → Going d bytes used → (d.phase ≡ Done → ⊥) → Fails (progress_of d) (suc (length (rows (progress_of d)))) (drop used bytes) f → FirstFault bytes f
 faulted d bytes used f so_far not_done bad = record {

@@ -66,7 +66,8 @@ fault_stops bytes f a =
 deck_stops : (bytes : List ℕ) (n : ℕ) (s : Sheet) (a : Deck bytes n s) → Stop bytes (over s) a.rest
 deck_stops bytes n s a = record { legal = a.whole; read = a.spelled; stuck = λ r x follows same. nothing_follows r follows }
 
-deck_no_fault : (bytes : List ℕ) (n : ℕ) (s : Sheet) (f : Told) → Deck bytes n s → FirstFault bytes f → ⊥
+-- a deck that is read and one that is not are not one
+pub deck_no_fault : (bytes : List ℕ) (n : ℕ) (s : Sheet) (f : Told) → Deck bytes n s → FirstFault bytes f → ⊥
 deck_no_fault bytes n s f a b = b.unfinished s (stop_one bytes b.before (over s) b.rest a.rest (fault_stops bytes f b) (deck_stops bytes n s a)).0
 
 pub outcome_unique : (bytes : List ℕ) (a b : Answer) (s t : Sheet) → Outcome bytes a s → Outcome bytes b t → (a ≡ b) × (s ≡ t)

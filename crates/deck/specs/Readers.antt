@@ -1,16 +1,19 @@
 -- How far a reader has come, and what it does with a record.
-use Rattle.std.specs.Prelude.{◌≡◌, ℕ, suc, false, List, [], ◌∷◌, ◌++◌, length, ◌≢◌}
+use Rattle.std.specs.Prelude.{◌≡◌, ℕ, suc, false, List, [], ◌∷◌, ◌++◌, length, Result, MatchResult, ◌≢◌}
 use Rattle.netlist.specs.Drafts.{Sheet, sheet, dead}
 use Rattle.deck.specs.Phases.{progress}
-use Rattle.deck.specs.Progress.{Progress, blank, going, over, rows}
+use Rattle.deck.specs.Progress.{Progress, blank, going, over, rows, Expected, expected}
+use Rattle.deck.specs.Records.{Failed}
 use Rattle.deck.specs.Rows.{row_of, text, spell}
+use Rattle.deck.specs.Tests.{Test}
 use Rattle.deck.specs.declared.entry.Entry.{Entry}
 use Rattle.deck.specs.declared.entry.Entry.TheVariants as entry
 use Rattle.deck.specs.declared.entry.Taken.{Taken}
+use Rattle.deck.specs.declared.fault.Fault.{Fault}
 use Rattle.deck.specs.declared.reader.DeckReader.{DeckReader}
 
 abbrev pub progress_of : DeckReader → Progress
-progress_of d = progress d.phase d.told (sheet d.draft)
+progress_of d = progress d.phase (sheet d.draft)
 
 -- a gate of a deck is not marked as looped, which closing finds
 abbrev pub Unmarked : Entry → Type 0
@@ -25,6 +28,13 @@ pub record Took (before after : DeckReader) (r : List ℕ) (e : Entry) : Type 0 
   pub spelling : r ≡ text (row_of e)
   pub unmarked : Unmarked e
   pub one_more : rows (progress_of after) ≡ rows (progress_of before) ++ (row_of e ∷ [])
+
+-- the answer to a record: the entry that was taken, or the fault of the first test that the record fails, of the
+-- tests for what is expected; a fault alters nothing
+abbrev pub Answers : DeckReader → DeckReader → List ℕ → ℕ → (Expected → ℕ → List Test) → Result Entry Fault → Type 0
+Answers before after r at tests answer =
+    MatchResult answer (λ e. Took before after r e)
+    (λ f. Failed r at (tests (expected (progress_of before)) (length r)) f × (after ≡ before))
 
 -- the bytes begin with the spelling of the entry's row, which comes after the rows taken before
 pub record TookFrom (before after : DeckReader) (bytes : List ℕ) (t : Taken) : Type 0 where

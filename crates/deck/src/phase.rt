@@ -4,7 +4,8 @@
 #[derive(Clone, Copy, PartialEq, Eq, Debug)]
 pub enum Phase {
     Header,
-    Inputs,
+    // So many inputs were told so far.
+    Inputs { told: usize },
     Gates,
     Outputs,
     End,

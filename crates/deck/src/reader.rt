@@ -10,13 +10,12 @@ use netlist::draft::Draft;
 pub mod reading;
 pub mod taking;
 
-// How many records it has taken, its phase, how many inputs were told, and the draft so far.
+// How many records it has taken, its phase, and the draft so far.
 #[derive(Drop)]
 pub struct DeckReader {
     records: usize,
     phase: Phase,
-    told: usize,
     draft: Draft,
-    ghost phased: { agrees phase told (sheet draft) ≡ true },
-    ghost counted: { records ≡ length (rows (progress phase told (sheet draft))) },
+    ghost phased: { agrees phase (sheet draft) ≡ true },
+    ghost counted: { records ≡ length (rows (progress phase (sheet draft))) },
 }

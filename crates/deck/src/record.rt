@@ -1,5 +1,6 @@
 // A record of a deck taken apart: its letter, and the fields that stand in its columns.
 ghost use Rattle.std.specs.Prelude.{◌≡◌, ◌+◌, ◌*◌, ◌≤◌, true, false, length, MatchResult};
+ghost use Rattle.std.specs.Range.{range_inclusive_start, range_inclusive_end, range_inclusive_exhausted};
 ghost use Rattle.netlist.specs.Drafts.{within_limits};
 ghost use Rattle.netlist.specs.Gates.{in_range, legal};
 ghost use Rattle.netlist.specs.Rows.{gate_of};
@@ -15,6 +16,38 @@ use netlist::draft::Draft;
 use netlist::kind::Kind;
 use netlist::refusal::Refusal;
 use netlist::row::GateRow;
+use std::ops::RangeInclusive;
+
+// So many columns of a record, from the first on. Columns count from 1, which is the letter's; a number of at most 19
+// columns is one of 64 bits.
+#[derive(Clone, Copy)]
+struct Span {
+    first: usize,
+    width: usize,
+    ghost past_letter: { 2 ≤ first },
+    ghost narrow: { width ≤ 19 },
+}
+
+// The line of an input, a gate or an output.
+const LINE: Span = Span { first: 2, width: 4 };
+
+// How many inputs, gates and outputs a header tells.
+const INPUTS: Span = Span { first: 2, width: 4 };
+
+const GATES: Span = Span { first: 6, width: 4 };
+
+const OUTPUTS: Span = Span {
+    first: 10,
+    width: 4,
+};
+
+// A gate's kind and its delay.
+const KIND: Span = Span { first: 6, width: 4 };
+
+const DELAY: Span = Span {
+    first: 10,
+    width: 5,
+};
 
 // The record's number, counted from 1, its letter, and the bytes from column 2 on.
 #[derive(Clone, Copy)]
@@ -36,70 +69,60 @@ impl<'a> Record<'a> {
         }
     }
 
-    // So many columns, from a column on.
-    fn columns(&self, column: usize, width: usize) -> &[u8]
-        requires past_letter { 2 ≤ column }
-        requires within { column + width ≤ length self.now.fields.now + 2 }
-        ensures { result.now ≡ columns (whole self.now) column width }
+    // The bytes in the columns.
+    fn columns(&self, span: Span) -> &[u8]
+        requires { span.first + span.width ≤ length self.now.fields.now + 2 }
+        ensures { result.now ≡ columns (whole self.now) span.first span.width }
     {
-        let start = column - 2;
-        &self.fields[start..start + width]
+        let start = span.first - 2;
+        &self.fields[start..start + span.width]
     }
 
-    // The number in so many columns.
-    fn figure(&self, column: usize, width: usize) -> Result<u64, Fault>
-        requires past_letter { 2 ≤ column }
-        requires within { column + width ≤ length self.now.fields.now + 2 }
-        requires narrow { width ≤ 19 }
-        ensures { MatchResult result (λ n. Shows (whole self.now) column width n) (λ f. Refuted (whole self.now) self.now.number (figure column width) f) }
+    // The number in the columns.
+    fn figure(&self, span: Span) -> Result<u64, Fault>
+        requires { span.first + span.width ≤ length self.now.fields.now + 2 }
+        ensures { MatchResult result (λ n. Shows (whole self.now) span.first span.width n) (λ f. Refuted (whole self.now) self.now.number (figure span.first span.width) f) }
     {
-        match Field::read(self.columns(column, width)) {
+        match Field::read(self.columns(span)) {
             Field::Number(number) => Ok(number),
             Field::Blank | Field::Unreadable => {
-                Err(self.fault(Refusal::Figure, Layer::Field, column))
+                Err(self.fault(Refusal::Figure, Layer::Field, span.first))
             }
         }
     }
 
-    // The number in so many columns, within its limits.
-    pub(crate) fn number(
-        &self,
-        column: usize,
-        width: usize,
-        least: u64,
-        most: u64,
-    ) -> Result<u64, Fault>
-        requires past_letter { 2 ≤ column }
-        requires within { column + width ≤ length self.now.fields.now + 2 }
-        requires narrow { width ≤ 19 }
-        ensures { MatchResult result (λ n. Shows (whole self.now) column width n × (least ≤ n) × (n ≤ most)) (λ f. Failed (whole self.now) self.now.number (number_tests column width least most) f) }
+    // The number in the columns, within its limits.
+    fn number(&self, span: Span, limits: RangeInclusive<u64>) -> Result<u64, Fault>
+        requires within { span.first + span.width ≤ length self.now.fields.now + 2 }
+        requires unspent { range_inclusive_exhausted limits ≡ false }
+        ensures { MatchResult result (λ n. Shows (whole self.now) span.first span.width n × (range_inclusive_start limits ≤ n) × (n ≤ range_inclusive_end limits)) (λ f. Failed (whole self.now) self.now.number (number_tests span.first span.width (range_inclusive_start limits) (range_inclusive_end limits)) f) }
     {
-        let number = self.figure(column, width)?;
-        if number < least || number > most {
-            return Err(self.fault(Refusal::Range, Layer::Record, column));
+        let number = self.figure(span)?;
+        if limits.contains(&number) {
+            Ok(number)
+        } else {
+            Err(self.fault(Refusal::Range, Layer::Record, span.first))
         }
-        Ok(number)
     }
 
-    // That the line in four columns is the one whose turn it is.
-    pub(crate) fn turn(&self, column: usize, line: usize) -> Result<(), Fault>
-        requires past_letter { 2 ≤ column }
-        requires within { column + 4 ≤ length self.now.fields.now + 2 }
-        ensures { MatchResult result (λ _. Shows (whole self.now) column 4 line) (λ f. Failed (whole self.now) self.now.number (line_tests column 4 line) f) }
+    // That the record's line is the one whose turn it is.
+    fn turn(&self, line: usize) -> Result<(), Fault>
+        requires { 4 ≤ length self.now.fields.now }
+        ensures { MatchResult result (λ _. Shows (whole self.now) 2 4 line) (λ f. Failed (whole self.now) self.now.number (line_tests 2 4 line) f) }
     {
-        let number = self.figure(column, 4)?;
+        let number = self.figure(LINE)?;
         if number != line as u64 {
-            return Err(self.fault(Refusal::Turn, Layer::Record, column));
+            return Err(self.fault(Refusal::Turn, Layer::Record, LINE.first));
         }
         Ok(())
     }
 
-    // The kind in columns 6 to 9.
-    pub(crate) fn kind(&self) -> Result<Kind, Fault>
+    // The kind of a gate.
+    fn kind(&self) -> Result<Kind, Fault>
         requires { 8 ≤ length self.now.fields.now }
         ensures { MatchResult result (λ k. columns (whole self.now) 6 4 ≡ kind_text k) (λ f. Refuted (whole self.now) self.now.number kind_known f) }
     {
-        match self.columns(6, 4) {
+        match self.columns(KIND) {
             b"BUF " => Ok(Kind::Buf),
             b"NOT " => Ok(Kind::Not),
             b"AND " => Ok(Kind::And),
@@ -108,7 +131,7 @@ impl<'a> Record<'a> {
             b"NAND" => Ok(Kind::Nand),
             b"NOR " => Ok(Kind::Nor),
             b"XNOR" => Ok(Kind::Xnor),
-            _ => Err(self.fault(Refusal::Kind, Layer::Record, 6)),
+            _ => Err(self.fault(Refusal::Kind, Layer::Record, KIND.first)),
         }
     }
 
@@ -116,12 +139,15 @@ impl<'a> Record<'a> {
     fn reads(&self, count: usize, lines: usize) -> Result<[u32; 4], Fault>
         requires few { count ≤ 4 }
         requires within { 15 + 4 * count ≤ length self.now.fields.now + 2 }
-        requires small { lines ≤ 1024 }
         ensures { MatchResult result (λ ns. (length ns ≡ 4) × ReadsShown (whole self.now) lines count ns) (λ f. Failed (whole self.now) self.now.number (reads_tests lines count) f) }
     {
         let mut reads = [0; 4];
         for place in 0..count {
-            let line = self.number(15 + 4 * place, 4, 1, lines as u64)?;
+            let span = Span {
+                first: 15 + 4 * place,
+                width: 4,
+            };
+            let line = self.number(span, 1..=lines as u64)?;
             reads[place] = line as u32;
         }
         Ok(reads)
@@ -143,9 +169,9 @@ impl<'a> Record<'a> {
         ensures { MatchResult result (λ h. Spells self.now (header h.inputs h.gates h.outputs) × (within_limits h.inputs h.gates h.outputs ≡ true)) (λ f. Failed (whole self.now) self.now.number (fields_tests header_next (length (whole self.now))) f) }
     {
         self.length(&[13])?;
-        let inputs = self.number(2, 4, 1, Draft::MOST_INPUTS as u64)?;
-        let gates = self.number(6, 4, 1, Draft::MOST_GATES as u64)?;
-        let outputs = self.number(10, 4, 1, Draft::MOST_OUTPUTS as u64)?;
+        let inputs = self.number(INPUTS, 1..=Draft::MOST_INPUTS as u64)?;
+        let gates = self.number(GATES, 1..=Draft::MOST_GATES as u64)?;
+        let outputs = self.number(OUTPUTS, 1..=Draft::MOST_OUTPUTS as u64)?;
         Ok(Header {
             inputs: inputs as usize,
             gates: gates as usize,
@@ -158,19 +184,18 @@ impl<'a> Record<'a> {
         ensures { MatchResult result (λ _. Spells self.now (input line)) (λ f. Failed (whole self.now) self.now.number (fields_tests (input_next line) (length (whole self.now))) f) }
     {
         self.length(&[5])?;
-        self.turn(2, line)
+        self.turn(line)
     }
 
     // G: the next gate.
     pub(crate) fn gate(&self, line: usize, lines: usize) -> Result<GateRow, Fault>
-        requires { lines ≤ 1024 }
         ensures { MatchResult result (λ row. Spells self.now (gate line (gate_of row)) × (legal lines (gate_of row) ≡ true) × (row.count ≤ 4) × (row.looped ≡ false)) (λ f. Failed (whole self.now) self.now.number (fields_tests (gate_next line lines) (length (whole self.now))) f) }
     {
         self.length(&[18, 22, 26, 30])?;
         let count = (self.fields.len() - 13) / 4;
-        self.turn(2, line)?;
+        self.turn(line)?;
         let kind = self.kind()?;
-        let delay = self.number(10, 5, 1, Draft::MOST_DELAY as u64)?;
+        let delay = self.number(DELAY, 1..=Draft::MOST_DELAY as u64)?;
         let reads = self.reads(count, lines)?;
         if !kind.takes(count) {
             return Err(self.fault(Refusal::Kind, Layer::Record, 6));
@@ -186,11 +211,10 @@ impl<'a> Record<'a> {
 
     // O: the line that an output names.
     pub(crate) fn output(&self, lines: usize) -> Result<u32, Fault>
-        requires { lines ≤ 1024 }
         ensures { MatchResult result (λ n. Spells self.now (output n) × (in_range 1 lines n ≡ true)) (λ f. Failed (whole self.now) self.now.number (fields_tests (output_next lines) (length (whole self.now))) f) }
     {
         self.length(&[5])?;
-        let line = self.number(2, 4, 1, lines as u64)?;
+        let line = self.number(LINE, 1..=lines as u64)?;
         Ok(line as u32)
     }
 

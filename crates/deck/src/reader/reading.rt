@@ -17,12 +17,7 @@ use netlist::refusal::Refusal;
 fn record_length(bytes: &[u8]) -> Option<usize>
     ensures { MatchOption result (Unended bytes.now) (λ n. (n < length bytes.now) × (slice_index bytes.now n ≡ 10) × Unended (take n bytes.now)) }
 {
-    for (i, byte) in bytes.iter().enumerate() {
-        if *byte == b'\n' {
-            return Some(i);
-        }
-    }
-    None
+    bytes.iter().position(|byte| *byte == b'\n')
 }
 
 impl DeckReader {
@@ -52,7 +47,6 @@ impl DeckReader {
         let DeckReader {
             records: _,
             phase,
-            told: _,
             draft,
         } = self;
         match phase {

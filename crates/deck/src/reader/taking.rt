@@ -1,8 +1,8 @@
 // Taking the records of a deck.
-ghost use Rattle.std.specs.Prelude.{◌≡◌, suc, [], ◌∷◌, ◌++◌, length, MatchResult};
-ghost use Rattle.deck.specs.Progress.{blank, rows, expected};
-ghost use Rattle.deck.specs.Readers.{progress_of, Took};
-ghost use Rattle.deck.specs.Records.{whole, Failed, fields_tests};
+ghost use Rattle.std.specs.Prelude.{◌≡◌, suc, length};
+ghost use Rattle.deck.specs.Progress.{blank, rows};
+ghost use Rattle.deck.specs.Readers.{progress_of, Answers};
+ghost use Rattle.deck.specs.Records.{whole, fields_tests};
 ghost use Rattle.deck.specs.Tests.{tests};
 
 use super::DeckReader;
@@ -20,7 +20,6 @@ impl DeckReader {
         DeckReader {
             records: 0,
             phase: Phase::Header,
-            told: 0,
             draft: Draft::new(0, 0, 0),
         }
     }
@@ -29,31 +28,29 @@ impl DeckReader {
     fn header(&mut self, source: &Record) -> Result<Entry, Fault>
         requires phase { self.old.phase ≡ Phase.Header }
         requires letter { source.now.letter ≡ 78 }
-        ensures { MatchResult result (λ e. Took self.old self.new (whole source.now) e) (λ f. Failed (whole source.now) source.now.number (fields_tests (expected (progress_of self.old)) (length (whole source.now))) f × (self.new ≡ self.old)) }
+        ensures { Answers self.old self.new (whole source.now) source.now.number fields_tests result }
     {
         let header = source.header()?;
         self.draft = Draft::new(header.inputs, header.gates, header.outputs);
-        self.phase = Phase::Inputs;
-        self.told = 0;
+        self.phase = Phase::Inputs { told: 0 };
         self.records = 1;
         Ok(Entry::Header(header))
     }
 
     // Takes the next input; after the last come the gates.
-    fn input(&mut self, source: &Record) -> Result<Entry, Fault>
-        requires phase { self.old.phase ≡ Phase.Inputs }
+    fn input(&mut self, told: usize, source: &Record) -> Result<Entry, Fault>
+        requires phase { self.old.phase ≡ Phase.Inputs told }
         requires letter { source.now.letter ≡ 73 }
-        ensures { MatchResult result (λ e. Took self.old self.new (whole source.now) e) (λ f. Failed (whole source.now) source.now.number (fields_tests (expected (progress_of self.old)) (length (whole source.now))) f × (self.new ≡ self.old)) }
+        ensures { Answers self.old self.new (whole source.now) source.now.number fields_tests result }
     {
-        let line = self.told + 1;
+        let line = told + 1;
         source.input(line)?;
         let phase = if line == self.draft.inputs() {
             Phase::Gates
         } else {
-            Phase::Inputs
+            Phase::Inputs { told: line }
         };
         self.phase = phase;
-        self.told = line;
         self.records += 1;
         Ok(Entry::Input(line))
     }
@@ -62,7 +59,7 @@ impl DeckReader {
     fn gate(&mut self, source: &Record) -> Result<Entry, Fault>
         requires phase { self.old.phase ≡ Phase.Gates }
         requires letter { source.now.letter ≡ 71 }
-        ensures { MatchResult result (λ e. Took self.old self.new (whole source.now) e) (λ f. Failed (whole source.now) source.now.number (fields_tests (expected (progress_of self.old)) (length (whole source.now))) f × (self.new ≡ self.old)) }
+        ensures { Answers self.old self.new (whole source.now) source.now.number fields_tests result }
     {
         let line = self.draft.next_line();
         let row = source.gate(line, self.draft.lines())?;
@@ -84,7 +81,7 @@ impl DeckReader {
     fn output(&mut self, source: &Record) -> Result<Entry, Fault>
         requires phase { self.old.phase ≡ Phase.Outputs }
         requires letter { source.now.letter ≡ 79 }
-        ensures { MatchResult result (λ e. Took self.old self.new (whole source.now) e) (λ f. Failed (whole source.now) source.now.number (fields_tests (expected (progress_of self.old)) (length (whole source.now))) f × (self.new ≡ self.old)) }
+        ensures { Answers self.old self.new (whole source.now) source.now.number fields_tests result }
     {
         let line = source.output(self.draft.lines())?;
         // Likewise the output.
@@ -103,7 +100,7 @@ impl DeckReader {
     fn end(&mut self, source: &Record) -> Result<Entry, Fault>
         requires phase { self.old.phase ≡ Phase.End }
         requires letter { source.now.letter ≡ 69 }
-        ensures { MatchResult result (λ e. Took self.old self.new (whole source.now) e) (λ f. Failed (whole source.now) source.now.number (fields_tests (expected (progress_of self.old)) (length (whole source.now))) f × (self.new ≡ self.old)) }
+        ensures { Answers self.old self.new (whole source.now) source.now.number fields_tests result }
     {
         source.end()?;
         self.phase = Phase::Done;
@@ -113,7 +110,7 @@ impl DeckReader {
 
     // Takes a record, whose letter and the reader's own phase together decide what it may be.
     pub(super) fn take_record(&mut self, bytes: &[u8]) -> Result<Entry, Fault>
-        ensures { MatchResult result (λ e. Took self.old self.new bytes.now e) (λ f. Failed bytes.now (suc (length (rows (progress_of self.old)))) (tests (expected (progress_of self.old)) (length bytes.now)) f × (self.new ≡ self.old)) }
+        ensures { Answers self.old self.new bytes.now (suc (length (rows (progress_of self.old)))) tests result }
     {
         let number = self.records + 1;
         let [letter, fields @ ..] = bytes else {
@@ -131,7 +128,7 @@ impl DeckReader {
         };
         match (self.phase, *letter) {
             (Phase::Header, b'N') => self.header(&source),
-            (Phase::Inputs, b'I') => self.input(&source),
+            (Phase::Inputs { told }, b'I') => self.input(told, &source),
             (Phase::Gates, b'G') => self.gate(&source),
             (Phase::Outputs, b'O') => self.output(&source),
             (Phase::End, b'E') => self.end(&source),

@@ -12,7 +12,7 @@ returns-in_err-input c =
     let r = c.args.source.now in
     let f = c.in_err-input.field-0.0 in
     carried c.from_residual.result f _ _ c.from_residual.ensures.1
-    (subst (λ e. Failed (whole r) r.number (fields_tests e (length (whole r))) f) (sym (reader_expects_input c.args.self.now c.requires.phase)) c.in_err-input.ensures, refl)
+    (subst (λ e. Failed (whole r) r.number (fields_tests e (length (whole r))) f) (sym (reader_expects_input c.args.self.now c.args.told c.requires.phase)) c.in_err-input.ensures, refl)
 
 pub overflow_add-self : goal.overflow_add-self
 overflow_add-self c = omega (arith, few_records c.args.self.now)
@@ -21,7 +21,7 @@ pub invariant_of-self : goal.invariant_of-self
 invariant_of-self c =
     let d = c.args.self.now in
     let at =
-    input_stands d c.requires.phase c.if-line-inputs.phase
+    input_stands d c.args.told c.requires.phase c.if-line-inputs.phase
     (elim c.if-line-inputs.branch [ then-line-inputs w ↦ inl (w.if-line-inputs.true ∙ c.inputs.ensures, w.phase-is) | else-line-inputs w ↦ inr (λ e. w.if-line-inputs.false (e ∙ sym c.inputs.ensures), w.phase-is) ]) in
     record {
       phased = at.agreed;
@@ -30,7 +30,7 @@ invariant_of-self c =
 
 pub returns : goal.returns
 returns c = record {
-  spelling = whole_is c.args.source.now (input (c.args.self.now.told + 1)) 73 c.requires.letter c.in_ok-input.ensures refl;
+  spelling = whole_is c.args.source.now (input (c.args.told + 1)) 73 c.requires.letter c.in_ok-input.ensures refl;
   unmarked = tt;
-  one_more = (input_stands c.args.self.now c.requires.phase c.if-line-inputs.phase (elim c.if-line-inputs.branch [ then-line-inputs w ↦ inl (w.if-line-inputs.true ∙ c.inputs.ensures, w.phase-is) | else-line-inputs w ↦ inr (λ e. w.if-line-inputs.false (e ∙ sym c.inputs.ensures), w.phase-is) ])).grown;
+  one_more = (input_stands c.args.self.now c.args.told c.requires.phase c.if-line-inputs.phase (elim c.if-line-inputs.branch [ then-line-inputs w ↦ inl (w.if-line-inputs.true ∙ c.inputs.ensures, w.phase-is) | else-line-inputs w ↦ inr (λ e. w.if-line-inputs.false (e ∙ sym c.inputs.ensures), w.phase-is) ])).grown;
 }

@@ -18,10 +18,10 @@ use Rattle.deck.proofs.reader.DeckReader.take_record.Goals.{in_default-2-via-in-
 
 -- the letter that each phase expects
 header_letter : (d : DeckReader) → d.phase ≡ Header → letter_of (expected (progress_of d)) ≡ letter 78
-header_letter d e = ap (λ p. letter_of (expected (progress p d.told (sheet d.draft)))) e
+header_letter d e = ap (λ p. letter_of (expected (progress p (sheet d.draft)))) e
 
-input_letter : (d : DeckReader) → d.phase ≡ Inputs → letter_of (expected (progress_of d)) ≡ letter 73
-input_letter d e = ap letter_of (reader_expects_input d e)
+input_letter : (d : DeckReader) (told : ℕ) → d.phase ≡ Inputs told → letter_of (expected (progress_of d)) ≡ letter 73
+input_letter d told e = ap letter_of (reader_expects_input d told e)
 
 gate_letter : (d : DeckReader) → d.phase ≡ Gates → letter_of (expected (progress_of d)) ≡ letter 71
 gate_letter d e = ap letter_of (reader_expects_gate d e)
@@ -33,7 +33,7 @@ end_letter : (d : DeckReader) → d.phase ≡ End → letter_of (expected (progr
 end_letter d e = ap letter_of (reader_expects_end d e)
 
 done_letter : (d : DeckReader) → d.phase ≡ Done → letter_of (expected (progress_of d)) ≡ out_of_order
-done_letter d e = ap (λ p. letter_of (expected (progress p d.told (sheet d.draft)))) e
+done_letter d e = ap (λ p. letter_of (expected (progress p (sheet d.draft)))) e
 
 -- the number of the record
 numbered : (d : DeckReader) → d.records + 1 ≡ suc (length (rows (progress_of d)))
@@ -59,7 +59,7 @@ pub returns-in-Inputs-eq73 : goal.returns-in-Inputs-eq73
 returns-in-Inputs-eq73 c =
     let d = c.args.self.now in
     let some : 0 < length c.args.bytes.now = search rules in
-    by_letter d c.input.new.self c.args.bytes.now _ _ 73 c.input.result (first_rest c.args.bytes.now 0 some) (numbered d) c.in-Inputs-eq73.is-1 (input_letter d c.in-Inputs-eq73.is-0) c.input.ensures
+    by_letter d c.input.new.self c.args.bytes.now _ _ 73 c.input.result (first_rest c.args.bytes.now 0 some) (numbered d) c.in-Inputs-eq73.is-1 (input_letter d _ c.in-Inputs-eq73.is-0) c.input.ensures
 
 pub returns-in-Gates-eq71 : goal.returns-in-Gates-eq71
 returns-in-Gates-eq71 c =
@@ -91,10 +91,10 @@ returns-in_default-2 c =
     let f = c.fault.result in
     let is = ap told c.fault.ensures in
     elim c.in_default-2.branch [
-      | in_default-2-via-in-Header+in_default w ↦ let p : d.phase ≡ Header = search rules in let o : get_or bytes 0 0 ≡ 78 → ⊥ = search rules in (refused d bytes 78 _ f (header_letter d p) o is, refl)
-      | in_default-2-via-in-Inputs+in_default w ↦ let p : d.phase ≡ Inputs = search rules in let o : get_or bytes 0 0 ≡ 73 → ⊥ = search rules in (refused d bytes 73 _ f (input_letter d p) o is, refl)
-      | in_default-2-via-in-Gates+in_default w ↦ let p : d.phase ≡ Gates = search rules in let o : get_or bytes 0 0 ≡ 71 → ⊥ = search rules in (refused d bytes 71 _ f (gate_letter d p) o is, refl)
-      | in_default-2-via-in-Outputs+in_default w ↦ let p : d.phase ≡ Outputs = search rules in let o : get_or bytes 0 0 ≡ 79 → ⊥ = search rules in (refused d bytes 79 _ f (output_letter d p) o is, refl)
-      | in_default-2-via-in-End+in_default w ↦ let p : d.phase ≡ End = search rules in let o : get_or bytes 0 0 ≡ 69 → ⊥ = search rules in (refused d bytes 69 _ f (end_letter d p) o is, refl)
+      | in_default-2-via-in-Header+in_default w ↦ (refused d bytes 78 _ f (header_letter d w.in_default-2.is-0) w.in_default-2.is-1.1 is, refl)
+      | in_default-2-via-in-Inputs+in_default w ↦ (refused d bytes 73 _ f (input_letter d _ w.in_default-2.is-0) w.in_default-2.is-1.1 is, refl)
+      | in_default-2-via-in-Gates+in_default w ↦ (refused d bytes 71 _ f (gate_letter d w.in_default-2.is-0) w.in_default-2.is-1.1 is, refl)
+      | in_default-2-via-in-Outputs+in_default w ↦ (refused d bytes 79 _ f (output_letter d w.in_default-2.is-0) w.in_default-2.is-1.1 is, refl)
+      | in_default-2-via-in-End+in_default w ↦ (refused d bytes 69 _ f (end_letter d w.in_default-2.is-0) w.in_default-2.is-1.1 is, refl)
       | in_default-2-via-in_default w ↦ let p : d.phase ≡ Done = search rules in (wrong_letter (expected (progress_of d)) bytes _ _ f (λ q. subst (Passes bytes) (done_letter d p) q) (is ∙ ap (λ m. record { number = 2; layer = 82; at = m; column = 1 }) (numbered d)), refl)
     ]

@@ -15,7 +15,7 @@ use Rattle.deck.specs.declared.fault.Fault.{Fault}
 use Rattle.deck.proofs.Columns.{columns_past_letter}
 use Rattle.deck.proofs.Cutting.{cut, cut_joined, gate_lengths, on_lines_of}
 use Rattle.deck.proofs.Exits.{carried}
-use Rattle.deck.proofs.Failing.{failed_one, failed_after, failed_left, failed_right, number_pass, line_pass, reads_pass}
+use Rattle.deck.proofs.Failing.{failed_one, failed_after, failed_left, failed_right, number_pass, limits_are, line_pass, reads_pass}
 use Rattle.deck.proofs.Texts.{kind_one}
 use Rattle.deck.proofs.record.Record.gate.Goals as goal
 
@@ -42,7 +42,7 @@ module _ (r : List ℕ) (at line lines n : ℕ) (f : Fault) (long-fits : Passes 
     from_delay bad = from_kind (failed_after r at kind_known after_kind f (k, kind-shown) bad)
 
     from_reads : (d : ℕ) → Shows r 10 5 d × (1 ≤ d) × (d ≤ 65535) → Failed r at after_delay f → Failed r at (fields_tests (gate_next line lines) n) f
-    from_reads d shown bad = from_delay (failed_right r at (number_tests 10 5 1 65535) after_delay f (number_pass r 10 5 1 65535 d shown.0 shown.1 shown.2) bad)
+    from_reads d shown bad = from_delay (failed_right r at (number_tests 10 5 1 65535) after_delay f (number_pass r 10 5 1 65535 d shown.0 (shown.1, shown.2)) bad)
 
 pub returns-in_err-turn : goal.returns-in_err-turn
 returns-in_err-turn c =
@@ -59,14 +59,15 @@ pub returns-in_err-delay : goal.returns-in_err-delay
 returns-in_err-delay c =
     let r = c.args.self.now in
     carried c.from_residual-in_err-delay.result _ _ _ c.from_residual-in_err-delay.ensures.1
-    (from_delay (whole r) r.number c.args.line c.args.lines (length (whole r)) _ c.in_ok-length.ensures c.in_ok-turn.ensures _ c.in_ok-kind.ensures (failed_left _ _ (number_tests 10 5 1 65535) _ _ c.in_err-delay.ensures))
+    (from_delay (whole r) r.number c.args.line c.args.lines (length (whole r)) _ c.in_ok-length.ensures c.in_ok-turn.ensures _ c.in_ok-kind.ensures (failed_left _ _ (number_tests 10 5 1 65535) _ _ (limits_are _ _ 10 5 1 65535 _ c.new.ensures.start c.new.ensures.end c.in_err-delay.ensures)))
 
 pub returns-in_err-reads : goal.returns-in_err-reads
 returns-in_err-reads c =
     let r = c.args.self.now in
     let n = length r.fields.now in
+    let delay = c.in_ok-delay.ensures in
     carried c.from_residual-in_err-reads.result _ _ _ c.from_residual-in_err-reads.ensures.1
-    (from_reads (whole r) r.number c.args.line c.args.lines (suc n) _ c.in_ok-length.ensures c.in_ok-turn.ensures _ c.in_ok-kind.ensures _ c.in_ok-delay.ensures (failed_left _ _ (reads_tests c.args.lines (reads_count (suc n))) _ _ (subst (λ k. Failed (whole r) r.number (reads_tests c.args.lines k) c.in_err-reads.field-0.0) (sym (counted n)) c.in_err-reads.ensures)))
+    (from_reads (whole r) r.number c.args.line c.args.lines (suc n) _ c.in_ok-length.ensures c.in_ok-turn.ensures _ c.in_ok-kind.ensures _ (delay.0, omega arith, omega arith) (failed_left _ _ (reads_tests c.args.lines (reads_count (suc n))) _ _ (subst (λ k. Failed (whole r) r.number (reads_tests c.args.lines k) c.in_err-reads.field-0.0) (sym (counted n)) c.in_err-reads.ensures)))
 
 -- a kind that does not take so many lines is no kind that does
 takes_none : (r : List ℕ) (k : Kind) (count : ℕ) → columns r 6 4 ≡ kind_text k → false ≡ fits k count → Passes r (kind_takes count) → ⊥
@@ -77,8 +78,9 @@ pub returns-then-not-takes : goal.returns-then-not-takes
 returns-then-not-takes c =
     let r = c.args.self.now in
     let n = length r.fields.now in
+    let delay = c.in_ok-delay.ensures in
     let shown = c.in_ok-reads.ensures.1 in
-    from_reads (whole r) r.number c.args.line c.args.lines (suc n) _ c.in_ok-length.ensures c.in_ok-turn.ensures _ c.in_ok-kind.ensures _ c.in_ok-delay.ensures
+    from_reads (whole r) r.number c.args.line c.args.lines (suc n) _ c.in_ok-length.ensures c.in_ok-turn.ensures _ c.in_ok-kind.ensures _ (delay.0, omega arith, omega arith)
     (subst (λ k. Failed (whole r) r.number (reads_tests c.args.lines k ++ (kind_takes k ∷ [])) c.fault.result) (sym (counted n)) (failed_right _ _ (reads_tests c.args.lines ((n - 13) / 4)) _ _ (reads_pass (whole r) c.args.lines ((n - 13) / 4) _ shown) (failed_one _ _ (kind_takes ((n - 13) / 4)) _ _ (record { fails = takes_none (whole r) _ _ c.in_ok-kind.ensures c.if-not-takes.ensures; is = ap told c.fault.ensures }))))
 
 pub returns : goal.returns
@@ -97,7 +99,7 @@ returns c =
     let fourth = cut_joined fields ns 13 count few (λ i below. sym (columns_past_letter r.letter fields (15 + 4 * i) 4 (13 + 4 * i) (omega arith)) ∙ (reads.1 i below).0.spelling) in
     let last : drop 13 fields ≡ flat_map (spelled 4) (take count ns) = fourth ∙ ap (λ l. flat_map (spelled 4) (take count ns) ++ l) (drop_all (13 + 4 * count) fields (omega arith)) ∙ append-nil _ in (
       first ∙ ap (λ l. spelled 4 c.args.line ++ l) (second ∙ ap (λ l. kind_text c.in_ok-kind.kind ++ l) (third ∙ ap (λ l. spelled 5 c.in_ok-delay.delay ++ l) last)),
-      and_from _ _ (and_from _ _ (inside 1 65535 _ delay.1 delay.2) (on_lines_of c.args.lines ns count few (λ i below. inside 1 _ _ (reads.1 i below).1 (reads.1 i below).2))) (ap (fits c.in_ok-kind.kind) (length-take-le count ns few) ∙ sym c.if-not-takes.ensures),
+      and_from _ _ (and_from _ _ (inside 1 65535 c.in_ok-delay.delay (omega arith) (omega arith)) (on_lines_of c.args.lines ns count few (λ i below. inside 1 _ _ (reads.1 i below).1 (reads.1 i below).2))) (ap (fits c.in_ok-kind.kind) (length-take-le count ns few) ∙ sym c.if-not-takes.ensures),
       wide.1,
       refl,
     )

@@ -1,7 +1,8 @@
 -- How far a deck is read: the rows that it has so far, and which row is expected next.
 use Rattle.std.specs.Prelude.{◌≡◌, ℕ, suc, ◌+◌, ◌<◌, ◌≤◌, true, cond, List, [], ◌∷◌, ◌++◌, length, nat_lt}
 use Rattle.netlist.specs.Drafts.{Sheet, within_limits, lines, takes_gate, takes_output, complete}
-use Rattle.netlist.specs.Gates.{every, legal, on_lines}
+use Rattle.std.specs.List.{list_all}
+use Rattle.netlist.specs.Gates.{legal, on_lines}
 use Rattle.deck.specs.Rows.{Row, header, end, input_rows, gate_rows, output_rows, spell}
 
 -- nothing read yet; a draft with so many of its inputs told; a draft after its end row
@@ -29,7 +30,7 @@ pub record Begun (s : Sheet) (told : ℕ) : Type 0 where
   pub inputs_few : told ≤ s.circuit.inputs
   pub gates_few : length s.circuit.gates ≤ s.gates
   pub outputs_few : length s.circuit.outputs ≤ s.outputs
-  pub gates_legal : every (legal (lines s)) s.circuit.gates ≡ true
+  pub gates_legal : list_all (legal (lines s)) s.circuit.gates ≡ true
   pub outputs_on_lines : on_lines (lines s) s.circuit.outputs ≡ true
   pub inputs_first : 0 < length s.circuit.gates → told ≡ s.circuit.inputs
   pub gates_first : 0 < length s.circuit.outputs → length s.circuit.gates ≡ s.gates

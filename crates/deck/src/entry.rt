@@ -1,22 +1,33 @@
 // The records of a deck as they are understood.
 use netlist::row::GateRow;
+use netlist::size::Size;
+use std::fmt;
 
-// How many inputs, gates and outputs a deck has.
-#[derive(Clone, Copy, Debug)]
-pub struct Header {
-    pub inputs: usize,
-    pub gates: usize,
-    pub outputs: usize,
-}
-
-// A record; inputs, gates and outputs with their lines.
+// A record; the header with the netlist's size, inputs, gates and outputs with their lines.
 #[derive(Clone, Copy, Debug)]
 pub enum Entry {
-    Header(Header),
+    Header(Size),
     Input(usize),
     Gate(usize, GateRow),
     Output(u32),
     End,
+}
+
+impl fmt::Display for Entry {
+    fn fmt<W: fmt::Write>(&self, f: &mut fmt::Formatter<W>) -> fmt::Result {
+        match self {
+            Entry::Header(size) => {
+                let inputs = size.inputs;
+                let gates = size.gates;
+                let outputs = size.outputs;
+                write!(f, "header, {inputs} inputs, {gates} gates, {outputs} outputs")
+            }
+            Entry::Input(line) => write!(f, "input on line {line}"),
+            Entry::Gate(line, row) => write!(f, "gate on line {line}: {row}"),
+            Entry::Output(line) => write!(f, "output of line {line}"),
+            Entry::End => f.write_str("end"),
+        }
+    }
 }
 
 // An entry, and how many bytes its record takes with its ending.

@@ -1,6 +1,5 @@
 // A record of a deck taken apart: its letter, and the fields that stand in its columns.
 ghost use Rattle.std.specs.Prelude.{◌≡◌, ◌+◌, ◌*◌, ◌≤◌, true, false, length, MatchResult};
-ghost use Rattle.std.specs.Range.{range_inclusive_start, range_inclusive_end, range_inclusive_exhausted};
 ghost use Rattle.netlist.specs.Drafts.{within_limits};
 ghost use Rattle.netlist.specs.Gates.{in_range, legal};
 ghost use Rattle.netlist.specs.Rows.{gate_of};
@@ -9,14 +8,14 @@ ghost use Rattle.deck.specs.Records.{whole, Spells, Failed, Refuted, ReadsShown,
 ghost use Rattle.deck.specs.Rows.{header, input, gate, output, end, kind_text};
 ghost use Rattle.deck.specs.Tests.{columns, Shows, has, figure, long, kind_known, number_tests, line_tests, reads_tests};
 
-use crate::entry::Header;
 use crate::fault::{Fault, Layer};
+use arrayvec::ArrayVec;
 use columns::Field;
 use netlist::draft::Draft;
 use netlist::kind::Kind;
 use netlist::refusal::Refusal;
 use netlist::row::GateRow;
-use std::ops::RangeInclusive;
+use netlist::size::Size;
 
 // So many columns of a record, from the first on. Columns count from 1, which is the letter's; a number of at most 19
 // columns is one of 64 bits.
@@ -91,14 +90,13 @@ impl<'a> Record<'a> {
         }
     }
 
-    // The number in the columns, within its limits.
-    fn number(&self, span: Span, limits: RangeInclusive<u64>) -> Result<u64, Fault>
-        requires within { span.first + span.width ≤ length self.now.fields.now + 2 }
-        requires unspent { range_inclusive_exhausted limits ≡ false }
-        ensures { MatchResult result (λ n. Shows (whole self.now) span.first span.width n × (range_inclusive_start limits ≤ n) × (n ≤ range_inclusive_end limits)) (λ f. Failed (whole self.now) self.now.number (number_tests span.first span.width (range_inclusive_start limits) (range_inclusive_end limits)) f) }
+    // The number in the columns, which is at least 1 and at most so much.
+    fn number(&self, span: Span, most: u64) -> Result<u64, Fault>
+        requires { span.first + span.width ≤ length self.now.fields.now + 2 }
+        ensures { MatchResult result (λ n. Shows (whole self.now) span.first span.width n × (1 ≤ n) × (n ≤ most)) (λ f. Failed (whole self.now) self.now.number (number_tests span.first span.width 1 most) f) }
     {
         let number = self.figure(span)?;
-        if limits.contains(&number) {
+        if (1..=most).contains(&number) {
             Ok(number)
         } else {
             Err(self.fault(Refusal::Range, Layer::Record, span.first))
@@ -136,19 +134,19 @@ impl<'a> Record<'a> {
     }
 
     // The lines that a gate reads, four columns each from column 15 on.
-    fn reads(&self, count: usize, lines: usize) -> Result<[u32; 4], Fault>
+    fn reads(&self, count: usize, lines: usize) -> Result<ArrayVec<u32, 4>, Fault>
         requires few { count ≤ 4 }
         requires within { 15 + 4 * count ≤ length self.now.fields.now + 2 }
-        ensures { MatchResult result (λ ns. (length ns ≡ 4) × ReadsShown (whole self.now) lines count ns) (λ f. Failed (whole self.now) self.now.number (reads_tests lines count) f) }
+        ensures { MatchResult result (λ ns. (length ns.items ≡ count) × ReadsShown (whole self.now) lines count ns.items) (λ f. Failed (whole self.now) self.now.number (reads_tests lines count) f) }
     {
-        let mut reads = [0; 4];
+        let mut reads = ArrayVec::new();
         for place in 0..count {
             let span = Span {
                 first: 15 + 4 * place,
                 width: 4,
             };
-            let line = self.number(span, 1..=lines as u64)?;
-            reads[place] = line as u32;
+            let line = self.number(span, lines as u64)?;
+            reads.push(line as u32);
         }
         Ok(reads)
     }
@@ -165,14 +163,14 @@ impl<'a> Record<'a> {
     }
 
     // N: how many inputs, gates and outputs.
-    pub(crate) fn header(&self) -> Result<Header, Fault>
+    pub(crate) fn header(&self) -> Result<Size, Fault>
         ensures { MatchResult result (λ h. Spells self.now (header h.inputs h.gates h.outputs) × (within_limits h.inputs h.gates h.outputs ≡ true)) (λ f. Failed (whole self.now) self.now.number (fields_tests header_next (length (whole self.now))) f) }
     {
         self.length(&[13])?;
-        let inputs = self.number(INPUTS, 1..=Draft::MOST_INPUTS as u64)?;
-        let gates = self.number(GATES, 1..=Draft::MOST_GATES as u64)?;
-        let outputs = self.number(OUTPUTS, 1..=Draft::MOST_OUTPUTS as u64)?;
-        Ok(Header {
+        let inputs = self.number(INPUTS, Draft::MOST_INPUTS as u64)?;
+        let gates = self.number(GATES, Draft::MOST_GATES as u64)?;
+        let outputs = self.number(OUTPUTS, Draft::MOST_OUTPUTS as u64)?;
+        Ok(Size {
             inputs: inputs as usize,
             gates: gates as usize,
             outputs: outputs as usize,
@@ -189,24 +187,16 @@ impl<'a> Record<'a> {
 
     // G: the next gate.
     pub(crate) fn gate(&self, line: usize, lines: usize) -> Result<GateRow, Fault>
-        ensures { MatchResult result (λ row. Spells self.now (gate line (gate_of row)) × (legal lines (gate_of row) ≡ true) × (row.count ≤ 4) × (row.looped ≡ false)) (λ f. Failed (whole self.now) self.now.number (fields_tests (gate_next line lines) (length (whole self.now))) f) }
+        ensures { MatchResult result (λ row. Spells self.now (gate line (gate_of row)) × (legal lines (gate_of row) ≡ true) × (row.looped ≡ false)) (λ f. Failed (whole self.now) self.now.number (fields_tests (gate_next line lines) (length (whole self.now))) f) }
     {
         self.length(&[18, 22, 26, 30])?;
         let count = (self.fields.len() - 13) / 4;
         self.turn(line)?;
         let kind = self.kind()?;
-        let delay = self.number(DELAY, 1..=Draft::MOST_DELAY as u64)?;
+        let delay = self.number(DELAY, Draft::MOST_DELAY as u64)?;
         let reads = self.reads(count, lines)?;
-        if !kind.takes(count) {
-            return Err(self.fault(Refusal::Kind, Layer::Record, 6));
-        }
-        Ok(GateRow {
-            kind,
-            delay: delay as u32,
-            lines: reads,
-            count,
-            looped: false,
-        })
+        GateRow::new(kind, delay as u32, &reads)
+            .map_err(|refusal| self.fault(refusal, Layer::Record, KIND.first))
     }
 
     // O: the line that an output names.
@@ -214,7 +204,7 @@ impl<'a> Record<'a> {
         ensures { MatchResult result (λ n. Spells self.now (output n) × (in_range 1 lines n ≡ true)) (λ f. Failed (whole self.now) self.now.number (fields_tests (output_next lines) (length (whole self.now))) f) }
     {
         self.length(&[5])?;
-        let line = self.number(LINE, 1..=lines as u64)?;
+        let line = self.number(LINE, lines as u64)?;
         Ok(line as u32)
     }
 

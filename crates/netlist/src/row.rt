@@ -6,6 +6,7 @@ ghost use Rattle.netlist.specs.Refusals.{answer};
 
 use crate::kind::Kind;
 use crate::refusal::Refusal;
+use std::fmt;
 use std::marker::Model;
 
 // A gate: its kind, its delay, and the lines it reads, of which the first `count` stand in `lines`, with 0 after them.
@@ -75,6 +76,18 @@ impl GateRow {
         ensures { result.now ≡ self.now.gate.reads }
     {
         &self.lines[..self.count]
+    }
+}
+
+impl fmt::Display for GateRow {
+    fn fmt<W: fmt::Write>(&self, f: &mut fmt::Formatter<W>) -> fmt::Result {
+        let kind = self.kind;
+        let delay = self.delay;
+        write!(f, "{kind}, delay {delay}, reads")?;
+        for line in self.reads() {
+            write!(f, " {line}")?;
+        }
+        Ok(())
     }
 }
 

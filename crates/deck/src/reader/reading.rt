@@ -12,6 +12,7 @@ use crate::fault::{Fault, Layer};
 use crate::phase::Phase;
 use netlist::draft::Draft;
 use netlist::refusal::Refusal;
+use netlist::size::Size;
 
 // How many bytes stand before the first byte 10.
 fn record_length(bytes: &[u8]) -> Option<usize>
@@ -51,7 +52,7 @@ impl DeckReader {
         } = self;
         match phase {
             Phase::Done => draft,
-            _ => Draft::new(0, 0, 0),
+            _ => Draft::new(Size::default()),
         }
     }
 

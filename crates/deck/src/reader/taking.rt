@@ -12,6 +12,7 @@ use crate::phase::Phase;
 use crate::record::Record;
 use netlist::draft::Draft;
 use netlist::refusal::Refusal;
+use netlist::size::Size;
 
 impl DeckReader {
     pub fn new() -> DeckReader
@@ -20,7 +21,7 @@ impl DeckReader {
         DeckReader {
             records: 0,
             phase: Phase::Header,
-            draft: Draft::new(0, 0, 0),
+            draft: Draft::new(Size::default()),
         }
     }
 
@@ -30,11 +31,11 @@ impl DeckReader {
         requires letter { source.now.letter ≡ 78 }
         ensures { Answers self.old self.new (whole source.now) source.now.number fields_tests result }
     {
-        let header = source.header()?;
-        self.draft = Draft::new(header.inputs, header.gates, header.outputs);
+        let size = source.header()?;
+        self.draft = Draft::new(size);
         self.phase = Phase::Inputs { told: 0 };
         self.records = 1;
-        Ok(Entry::Header(header))
+        Ok(Entry::Header(size))
     }
 
     // Takes the next input; after the last come the gates.
@@ -64,9 +65,7 @@ impl DeckReader {
         let line = self.draft.next_line();
         let row = source.gate(line, self.draft.lines())?;
         // The record's tests are the draft's own, so the draft takes the gate.
-        let _ = self
-            .draft
-            .add_gate(row.kind, row.delay, &row.lines[0..row.count]);
+        let _ = self.draft.add_gate(row.kind, row.delay, row.reads());
         let phase = if self.draft.takes_gate() {
             Phase::Gates
         } else {

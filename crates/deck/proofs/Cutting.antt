@@ -1,7 +1,8 @@
 -- Fields cut from the left: a text whose columns are known is those columns, one after the other.
-use Rattle.std.proofs.Common.{◌≡◌, ℕ, zero, suc, ◌+◌, ◌-◌, ◌*◌, ◌/◌, ◌<◌, ◌≤◌, true, false, eqb, List, [], ◌∷◌, ◌++◌, length, get_or, take, drop, Decides, sym, refl, ap, ◌∙◌, subst, ⊎_elim, append-nil, add-one, arith, take-append-drop}
+use Rattle.std.proofs.Common.{◌≡◌, ℕ, zero, suc, ◌+◌, ◌-◌, ◌*◌, ◌/◌, ◌<◌, ◌≤◌, true, false, eqb, List, [], ◌∷◌, ◌++◌, length, get_or, take, drop, Decides, sym, refl, ap, ◌∙◌, subst, ⊎_elim, append-nil, arith, take-append-drop}
 use Rattle.std.specs.List.{flat_map, HoldsAt}
-use Rattle.std.proofs.lemmas.List.{drop-drop, drop_all, take_more, flat_map_more, append_assoc}
+use Rattle.std.proofs.Math.Seq.{take-suc}
+use Rattle.std.proofs.lemmas.List.{drop-drop, drop_all, flat_map_more, append_assoc}
 use Rattle.std.proofs.lemmas.Bool.{eqb-true, or_cases, false≢true}
 use Rattle.std.proofs.lemmas.Bool.Decides.{Decides-by_or, Decides-like, Decides-eqb}
 use Rattle.netlist.specs.Gates.{in_range, on_lines}
@@ -16,9 +17,6 @@ cut fs x k w e = sym (take-append-drop w (drop k fs)) ∙ ap (λ l. l ++ drop w 
 pub cut_last : (fs x : List ℕ) (k w : ℕ) → length fs ≤ k + w → take w (drop k fs) ≡ x → drop k fs ≡ x
 cut_last fs x k w all e = cut fs x k w e ∙ ap (λ l. x ++ l) (drop_all (k + w) fs all) ∙ append-nil x
 
-taken_more : (ns : List ℕ) (n : ℕ) → n < length ns → take (suc n) ns ≡ take n ns ++ (get_or ns n 0 ∷ [])
-taken_more ns n within = subst (λ j. take j ns ≡ take n ns ++ (get_or ns n 0 ∷ [])) (add-one n) (take_more ns n 0 within)
-
 -- so many numbers of four columns each, from place k on
 pub cut_joined : (fs ns : List ℕ) (k count : ℕ) → count ≤ length ns → ((i : ℕ) → i < count → take 4 (drop (k + 4 * i) fs) ≡ spelled 4 (get_or ns i 0)) → drop k fs ≡ flat_map (spelled 4) (take count ns) ++ drop (k + 4 * count) fs
 cut_joined fs ns k zero within each = ap (λ j. drop j fs) (omega arith)
@@ -27,7 +25,7 @@ cut_joined fs ns k (suc n) within each =
     let next = cut fs (spelled 4 (get_or ns n 0)) (k + 4 * n) 4 (each n (omega arith)) in
     let on : k + 4 * n + 4 ≡ k + 4 * suc n = omega arith in
     so_far ∙ ap (λ l. flat_map (spelled 4) (take n ns) ++ l) next ∙ sym (append_assoc (flat_map (spelled 4) (take n ns)) (spelled 4 (get_or ns n 0)) _)
-    ∙ ap (λ l. l ++ drop (k + 4 * n + 4) fs) (flat_map_more (spelled 4) [] (take n ns) (get_or ns n 0) ∙ ap (flat_map (spelled 4)) (sym (taken_more ns n within)))
+    ∙ ap (λ l. l ++ drop (k + 4 * n + 4) fs) (flat_map_more (spelled 4) [] (take n ns) (get_or ns n 0) ∙ ap (flat_map (spelled 4)) (sym (take-suc ns n 0 within)))
     ∙ ap (λ j. flat_map (spelled 4) (take (suc n) ns) ++ drop j fs) on
 
 pub has_one : (n m : ℕ) → has n (m ∷ []) ≡ true → n ≡ m
@@ -48,5 +46,5 @@ gate_lengths n e =
 pub on_lines_of : (lines : ℕ) (ns : List ℕ) (count : ℕ) → count ≤ length ns → ((i : ℕ) → i < count → in_range 1 lines (get_or ns i 0) ≡ true) → on_lines lines (take count ns) ≡ true
 on_lines_of lines ns zero within each = refl
 on_lines_of lines ns (suc n) within each =
-    subst (λ l. on_lines lines l ≡ true) (sym (taken_more ns n within))
+    subst (λ l. on_lines lines l ≡ true) (sym (take-suc ns n 0 within))
     (every_push (in_range 1 lines) (take n ns) (get_or ns n 0) (on_lines_of lines ns n (omega arith) (λ i below. each i (omega arith))) (each n (omega arith)))

@@ -1,9 +1,9 @@
 -- The letter of a record is tested first, against the letter that is expected.
-use Rattle.std.proofs.Common.{◌≡◌, ℕ, suc, List, [], ◌∷◌, length, get_or, Result, sym, refl, ap, ◌∙◌, subst, arith}
+use Rattle.std.proofs.Common.{◌≡◌, ℕ, suc, ◌+◌, List, [], ◌∷◌, length, get_or, Result, sym, refl, ap, ◌∙◌, subst, add-one}
 use Rattle.std.proofs.lemmas.Result.{MatchResult-weaker}
 use Rattle.deck.specs.Faults.{told}
 use Rattle.deck.specs.Progress.{Expected, header_next, input_next, gate_next, output_next, end_next, nothing_next, expected, rows}
-use Rattle.deck.specs.Readers.{progress_of, Took, Answers}
+use Rattle.deck.specs.Readers.{progress_of, Answers}
 use Rattle.deck.specs.Records.{Failed, fields_tests}
 use Rattle.deck.specs.Tests.{Test, letter, out_of_order, tests, Passes, fault_of}
 use Rattle.deck.specs.declared.entry.Entry.{Entry}
@@ -37,11 +37,11 @@ letter_fault nothing_next at = refl
 
 -- no letter passes in an empty record
 pub none_empty : (e : Expected) → Passes [] (letter_of e) → ⊥
-none_empty header_next (fs, is) = let z : ◌≡◌ {A = ℕ} 0 1 = cc in omega arith
-none_empty (input_next m) (fs, is) = let z : ◌≡◌ {A = ℕ} 0 1 = cc in omega arith
-none_empty (gate_next m k) (fs, is) = let z : ◌≡◌ {A = ℕ} 0 1 = cc in omega arith
-none_empty (output_next m) (fs, is) = let z : ◌≡◌ {A = ℕ} 0 1 = cc in omega arith
-none_empty end_next (fs, is) = let z : ◌≡◌ {A = ℕ} 0 1 = cc in omega arith
+none_empty header_next (fs, is) = cc
+none_empty (input_next m) (fs, is) = cc
+none_empty (gate_next m k) (fs, is) = cc
+none_empty (output_next m) (fs, is) = cc
+none_empty end_next (fs, is) = cc
 none_empty nothing_next never = never
 
 pub wrong_letter : (e : Expected) (r : List ℕ) (at n : ℕ) (f : Fault) → (Passes r (letter_of e) → ⊥) → told f ≡ record { number = 2; layer = 82; at = at; column = 1 } → Failed r at (tests e n) f
@@ -55,9 +55,13 @@ other_byte r b other (fs, is) = other (ap (λ l. get_or l 0 0) is)
 right_letter : (e : Expected) (r : List ℕ) (at n : ℕ) (f : Fault) → Passes r (letter_of e) → Failed r at (fields_tests e n) f → Failed r at (tests e n) f
 right_letter e r at n f pass bad = subst (λ ts. Failed r at ts f) (letter_first e n) (failed_after r at (letter_of e) _ f pass bad)
 
+-- the number of the record
+pub numbered : (d : DeckReader) → d.records + 1 ≡ suc (length (rows (progress_of d)))
+numbered d = add-one d.records ∙ ap suc d.counted
+
 -- what a row's own reader answers, as the answer for the whole record
-pub by_letter : (d t : DeckReader) (bytes fields : List ℕ) (at b : ℕ) (x : Result Entry Fault) → bytes ≡ get_or bytes 0 0 ∷ fields → at ≡ suc (length (rows (progress_of d))) → get_or bytes 0 0 ≡ b → letter_of (expected (progress_of d)) ≡ letter b → Answers d t (get_or bytes 0 0 ∷ fields) at fields_tests x → Answers d t bytes (suc (length (rows (progress_of d)))) tests x
-by_letter d t bytes fields at b x split place begins expects answered =
+pub by_letter : (d t : DeckReader) (bytes fields : List ℕ) (b : ℕ) (x : Result Entry Fault) → bytes ≡ get_or bytes 0 0 ∷ fields → get_or bytes 0 0 ≡ b → letter_of (expected (progress_of d)) ≡ letter b → Answers d t (get_or bytes 0 0 ∷ fields) (d.records + 1) fields_tests x → Answers d t bytes (suc (length (rows (progress_of d)))) tests x
+by_letter d t bytes fields b x split begins expects answered =
     let pass : Passes bytes (letter_of (expected (progress_of d))) = subst (Passes bytes) (sym expects) (fields, split ∙ ap (λ c. c ∷ fields) begins) in
-    MatchResult-weaker x answered (λ e took. subst (λ r. Took d t r e) (sym split) took)
-    (λ f bad. (right_letter (expected (progress_of d)) bytes _ _ f pass (subst (λ n. Failed bytes n (fields_tests (expected (progress_of d)) (length bytes)) f) place (subst (λ r. Failed r at (fields_tests (expected (progress_of d)) (length r)) f) (sym split) bad.0)), bad.1))
+    let there = subst (λ n. Answers d t bytes n fields_tests x) (numbered d) (subst (λ r. Answers d t r (d.records + 1) fields_tests x) (sym split) answered) in
+    MatchResult-weaker x there (λ e took. took) (λ f bad. (right_letter (expected (progress_of d)) bytes _ _ f pass bad.0, bad.1))

@@ -1,6 +1,6 @@
 -- A reader that goes on: what it has taken is spelled by the bytes used, and what it comes to is the deck's outcome.
-use Rattle.std.proofs.Common.{◌≡◌, ℕ, suc, ◌+◌, ◌<◌, ◌≤◌, List, [], ◌∷◌, ◌++◌, length, drop, sym, refl, ap, ◌∙◌, subst, append-nil, arith}
-use Rattle.std.proofs.lemmas.List.{length-append, drop_at}
+use Rattle.std.proofs.Common.{◌≡◌, ℕ, suc, ◌+◌, ◌-◌, ◌<◌, ◌≤◌, List, [], ◌∷◌, ◌++◌, length, take, drop, sym, refl, ap, ◌∙◌, subst, append-nil, arith}
+use Rattle.std.proofs.lemmas.List.{length-append, drop_at, take_rest}
 use Rattle.netlist.specs.Drafts.{Sheet, sheet, dead}
 use Rattle.deck.specs.Faults.{Told}
 use Rattle.deck.specs.Outcomes.{Fails, FirstFault, Deck}
@@ -26,8 +26,9 @@ length_more rs r =
     let inner = length-append (text r) (10 ∷ []) in
     omega arith
 
-pub goes_on : (d t : DeckReader) (bytes : List ℕ) (used : ℕ) (k : Taken) → Going d bytes used → TookFrom d t (drop used bytes) k → Going t bytes (used + k.bytes)
-goes_on d t bytes used k so_far took =
+pub goes_on : (d t : DeckReader) (bytes : List ℕ) (used : ℕ) (k : Taken) → Going d bytes used → TookFrom d t (take (length bytes - used) (drop used bytes)) k → Going t bytes (used + k.bytes)
+goes_on d t bytes used k so_far took_on =
+    let took = subst (λ l. TookFrom d t l k) (take_rest bytes used) took_on in
     let rs = rows (progress_of d) in
     let r = row_of k.entry in
     let spelled : bytes ≡ spell (rs ++ (r ∷ [])) ++ took.rest = so_far.2 ∙ ap (λ l. spell rs ++ l) took.spelling ∙ sym (spell_more rs r took.rest) in
@@ -48,24 +49,24 @@ took_within d t bytes k took =
 
 -- only the last phase is past the end
 over_done : (p : Phase) (s t : Sheet) → progress p s ≡ over t → p ≡ Done
-over_done Header s t e = absurd (let z : ◌≡◌ {A = ℕ} 0 1 = cc in omega arith)
-over_done (Inputs told) s t e = absurd (let z : ◌≡◌ {A = ℕ} 0 1 = cc in omega arith)
-over_done Gates s t e = absurd (let z : ◌≡◌ {A = ℕ} 0 1 = cc in omega arith)
-over_done Outputs s t e = absurd (let z : ◌≡◌ {A = ℕ} 0 1 = cc in omega arith)
-over_done End s t e = absurd (let z : ◌≡◌ {A = ℕ} 0 1 = cc in omega arith)
+over_done Header s t e = cc
+over_done (Inputs told) s t e = cc
+over_done Gates s t e = cc
+over_done Outputs s t e = cc
+over_done End s t e = cc
 over_done Done s t e = refl
 
 pub unfinished : (d : DeckReader) → (d.phase ≡ Done → ⊥) → Unfinished d
 unfinished d not_done s e = not_done (over_done d.phase (sheet d.draft) s e)
 
-pub faulted : (d : DeckReader) (bytes : List ℕ) (used : ℕ) (f : Told) → Going d bytes used → (d.phase ≡ Done → ⊥) → Fails (progress_of d) (suc (length (rows (progress_of d)))) (drop used bytes) f → FirstFault bytes f
+pub faulted : (d : DeckReader) (bytes : List ℕ) (used : ℕ) (f : Told) → Going d bytes used → (d.phase ≡ Done → ⊥) → Fails (progress_of d) (suc (length (rows (progress_of d)))) (take (length bytes - used) (drop used bytes)) f → FirstFault bytes f
 faulted d bytes used f so_far not_done bad = record {
   before = progress_of d;
   legal = reader_legal d;
   unfinished = unfinished d not_done;
   rest = drop used bytes;
   spelled_before = so_far.2;
-  fails = bad;
+  fails = subst (λ l. Fails (progress_of d) (suc (length (rows (progress_of d)))) l f) (take_rest bytes used) bad;
 }
 
 finished_dead : (p : Progress) → ((s : Sheet) → p ≡ over s → ⊥) → finished p ≡ dead

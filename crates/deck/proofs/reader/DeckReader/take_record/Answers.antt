@@ -1,4 +1,4 @@
-use Rattle.std.proofs.Common.{◌≡◌, ℕ, suc, ◌+◌, ◌<◌, List, [], length, get_or, refl, ap, ◌∙◌, subst, add-one, arith, rules}
+use Rattle.std.proofs.Common.{◌≡◌, ℕ, suc, ◌+◌, ◌<◌, List, [], length, get_or, refl, ap, ◌∙◌, subst, arith, rules}
 use Rattle.std.proofs.lemmas.List.{nil_from_length}
 use Rattle.std.proofs.lemmas.Slice.{first_rest}
 use Rattle.deck.specs.Faults.{told}
@@ -11,7 +11,7 @@ use Rattle.deck.specs.Records.{Failed}
 use Rattle.deck.specs.declared.fault.Fault.{Fault}
 use Rattle.deck.specs.declared.phase.Phase.TheVariants.{Header, Inputs, Gates, Outputs, End, Done}
 use Rattle.deck.specs.declared.reader.DeckReader.{DeckReader}
-use Rattle.deck.proofs.Letters.{letter_of, none_empty, wrong_letter, other_byte, by_letter}
+use Rattle.deck.proofs.Letters.{letter_of, none_empty, wrong_letter, other_byte, numbered, by_letter}
 use Rattle.deck.proofs.Readers.{few_records, reader_expects_input, reader_expects_gate, reader_expects_output, reader_expects_end}
 use Rattle.deck.proofs.reader.DeckReader.take_record.Goals as goal
 use Rattle.deck.proofs.reader.DeckReader.take_record.Goals.{in_default-2-via-in-Header+in_default, in_default-2-via-in-Inputs+in_default, in_default-2-via-in-Gates+in_default, in_default-2-via-in-Outputs+in_default, in_default-2-via-in-End+in_default, in_default-2-via-in_default}
@@ -35,10 +35,6 @@ end_letter d e = ap letter_of (reader_expects_end d e)
 done_letter : (d : DeckReader) → d.phase ≡ Done → letter_of (expected (progress_of d)) ≡ out_of_order
 done_letter d e = ap (λ p. letter_of (expected (progress p (sheet d.draft)))) e
 
--- the number of the record
-numbered : (d : DeckReader) → d.records + 1 ≡ suc (length (rows (progress_of d)))
-numbered d = add-one d.records ∙ ap suc d.counted
-
 pub overflow_add-number : goal.overflow_add-number
 overflow_add-number c = omega (arith, few_records c.args.self.now)
 
@@ -53,31 +49,31 @@ pub returns-in-Header-eq78 : goal.returns-in-Header-eq78
 returns-in-Header-eq78 c =
     let d = c.args.self.now in
     let some : 0 < length c.args.bytes.now = search rules in
-    by_letter d c.header.new.self c.args.bytes.now _ _ 78 c.header.result (first_rest c.args.bytes.now 0 some) (numbered d) c.in-Header-eq78.is-1 (header_letter d c.in-Header-eq78.is-0) c.header.ensures
+    by_letter d c.header.new.self c.args.bytes.now _ 78 c.header.result (first_rest c.args.bytes.now 0 some) c.in-Header-eq78.is-1 (header_letter d c.in-Header-eq78.is-0) c.header.ensures
 
 pub returns-in-Inputs-eq73 : goal.returns-in-Inputs-eq73
 returns-in-Inputs-eq73 c =
     let d = c.args.self.now in
     let some : 0 < length c.args.bytes.now = search rules in
-    by_letter d c.input.new.self c.args.bytes.now _ _ 73 c.input.result (first_rest c.args.bytes.now 0 some) (numbered d) c.in-Inputs-eq73.is-1 (input_letter d _ c.in-Inputs-eq73.is-0) c.input.ensures
+    by_letter d c.input.new.self c.args.bytes.now _ 73 c.input.result (first_rest c.args.bytes.now 0 some) c.in-Inputs-eq73.is-1 (input_letter d _ c.in-Inputs-eq73.is-0) c.input.ensures
 
 pub returns-in-Gates-eq71 : goal.returns-in-Gates-eq71
 returns-in-Gates-eq71 c =
     let d = c.args.self.now in
     let some : 0 < length c.args.bytes.now = search rules in
-    by_letter d c.gate.new.self c.args.bytes.now _ _ 71 c.gate.result (first_rest c.args.bytes.now 0 some) (numbered d) c.in-Gates-eq71.is-1 (gate_letter d c.in-Gates-eq71.is-0) c.gate.ensures
+    by_letter d c.gate.new.self c.args.bytes.now _ 71 c.gate.result (first_rest c.args.bytes.now 0 some) c.in-Gates-eq71.is-1 (gate_letter d c.in-Gates-eq71.is-0) c.gate.ensures
 
 pub returns-in-Outputs-eq79 : goal.returns-in-Outputs-eq79
 returns-in-Outputs-eq79 c =
     let d = c.args.self.now in
     let some : 0 < length c.args.bytes.now = search rules in
-    by_letter d c.output.new.self c.args.bytes.now _ _ 79 c.output.result (first_rest c.args.bytes.now 0 some) (numbered d) c.in-Outputs-eq79.is-1 (output_letter d c.in-Outputs-eq79.is-0) c.output.ensures
+    by_letter d c.output.new.self c.args.bytes.now _ 79 c.output.result (first_rest c.args.bytes.now 0 some) c.in-Outputs-eq79.is-1 (output_letter d c.in-Outputs-eq79.is-0) c.output.ensures
 
 pub returns-in-End-eq69 : goal.returns-in-End-eq69
 returns-in-End-eq69 c =
     let d = c.args.self.now in
     let some : 0 < length c.args.bytes.now = search rules in
-    by_letter d c.end.new.self c.args.bytes.now _ _ 69 c.end.result (first_rest c.args.bytes.now 0 some) (numbered d) c.in-End-eq69.is-1 (end_letter d c.in-End-eq69.is-0) c.end.ensures
+    by_letter d c.end.new.self c.args.bytes.now _ 69 c.end.result (first_rest c.args.bytes.now 0 some) c.in-End-eq69.is-1 (end_letter d c.in-End-eq69.is-0) c.end.ensures
 
 -- a record that begins with another letter than the phase expects
 refused : (d : DeckReader) (bytes : List ℕ) (b n : ℕ) (f : Fault) → letter_of (expected (progress_of d)) ≡ letter b → (get_or bytes 0 0 ≡ b → ⊥) → told f ≡ record { number = 2; layer = 82; at = d.records + 1; column = 1 } → Failed bytes (suc (length (rows (progress_of d)))) (tests (expected (progress_of d)) n) f

@@ -1,4 +1,4 @@
-use Rattle.std.proofs.Common.{◌≡◌, ℕ, ◌⊎◌, ap, subst, ⊎_elim, arith}
+use Rattle.std.proofs.Common.{◌≡◌, ℕ, ◌⊎◌, ap, subst, ⊎_elim}
 use Rattle.columns.specs.Spelling.{Means}
 use Rattle.columns.specs.declared.Field.{Field}
 use Rattle.columns.specs.declared.Field.TheVariants.{Number, Blank, Unreadable}
@@ -16,7 +16,7 @@ returns-in-Number c =
 
 no_number : (f : Field) (n : ℕ) → (f ≡ Blank) ⊎ (f ≡ Unreadable) → f ≡ Number n → ⊥
 no_number f n e is =
-    ⊎_elim (λ blank. let z : ◌≡◌ {A = ℕ} 0 1 = cc in omega arith) (λ unreadable. let z : ◌≡◌ {A = ℕ} 0 1 = cc in omega arith) e
+    ⊎_elim (λ blank. cc) (λ unreadable. cc) e
 
 pub returns-in-Blank : goal.returns-in-Blank
 returns-in-Blank c =

@@ -1,12 +1,10 @@
 -- Fields cut from the left: a text whose columns are known is those columns, one after the other.
-use Rattle.std.proofs.Common.{◌≡◌, ℕ, zero, suc, ◌+◌, ◌-◌, ◌*◌, ◌/◌, ◌<◌, ◌≤◌, true, false, eqb, List, [], ◌∷◌, ◌++◌, length, get_or, take, drop, Decides, sym, refl, ap, ◌∙◌, subst, ⊎_elim, append-nil, arith, take-append-drop}
+use Rattle.std.proofs.Common.{◌≡◌, ℕ, suc, ◌+◌, ◌-◌, ◌*◌, ◌/◌, ◌<◌, ◌≤◌, true, false, eqb, List, [], ◌∷◌, ◌++◌, length, get_or, take, drop, Decides, sym, refl, ap, ◌∙◌, subst, ⊎_elim, append-nil, arith, take-append-drop}
 use Rattle.std.specs.List.{flat_map, HoldsAt}
-use Rattle.std.proofs.Math.Seq.{take-suc}
-use Rattle.std.proofs.lemmas.List.{drop-drop, drop_all, flat_map_more, append_assoc}
-use Rattle.std.proofs.lemmas.Bool.{eqb-true, or_cases, false≢true}
+use Rattle.std.proofs.lemmas.List.{drop-drop, drop_all, append_assoc}
+use Rattle.std.proofs.lemmas.Bool.{and_from, eqb-true, or_cases, false≢true}
 use Rattle.std.proofs.lemmas.Bool.Decides.{Decides-by_or, Decides-like, Decides-eqb}
 use Rattle.netlist.specs.Gates.{in_range, on_lines}
-use Rattle.netlist.proofs.Tables.{every_push}
 use Rattle.columns.specs.Spelling.{spelled}
 use Rattle.deck.specs.Tests.{has}
 
@@ -17,16 +15,15 @@ cut fs x k w e = sym (take-append-drop w (drop k fs)) ∙ ap (λ l. l ++ drop w 
 pub cut_last : (fs x : List ℕ) (k w : ℕ) → length fs ≤ k + w → take w (drop k fs) ≡ x → drop k fs ≡ x
 cut_last fs x k w all e = cut fs x k w e ∙ ap (λ l. x ++ l) (drop_all (k + w) fs all) ∙ append-nil x
 
--- so many numbers of four columns each, from place k on
-pub cut_joined : (fs ns : List ℕ) (k count : ℕ) → count ≤ length ns → ((i : ℕ) → i < count → take 4 (drop (k + 4 * i) fs) ≡ spelled 4 (get_or ns i 0)) → drop k fs ≡ flat_map (spelled 4) (take count ns) ++ drop (k + 4 * count) fs
-cut_joined fs ns k zero within each = ap (λ j. drop j fs) (omega arith)
-cut_joined fs ns k (suc n) within each =
-    let so_far = cut_joined fs ns k n (omega arith) (λ i below. each i (omega arith)) in
-    let next = cut fs (spelled 4 (get_or ns n 0)) (k + 4 * n) 4 (each n (omega arith)) in
-    let on : k + 4 * n + 4 ≡ k + 4 * suc n = omega arith in
-    so_far ∙ ap (λ l. flat_map (spelled 4) (take n ns) ++ l) next ∙ sym (append_assoc (flat_map (spelled 4) (take n ns)) (spelled 4 (get_or ns n 0)) _)
-    ∙ ap (λ l. l ++ drop (k + 4 * n + 4) fs) (flat_map_more (spelled 4) [] (take n ns) (get_or ns n 0) ∙ ap (flat_map (spelled 4)) (sym (take-suc ns n 0 within)))
-    ∙ ap (λ j. flat_map (spelled 4) (take (suc n) ns) ++ drop j fs) on
+-- numbers of four columns each, from place k on
+pub cut_joined : (fs ns : List ℕ) (k : ℕ) → ((i : ℕ) → i < length ns → take 4 (drop (k + 4 * i) fs) ≡ spelled 4 (get_or ns i 0)) → drop k fs ≡ flat_map (spelled 4) ns ++ drop (k + 4 * length ns) fs
+cut_joined fs [] k each = ap (λ j. drop j fs) (omega arith)
+cut_joined fs (n ∷ ns) k each =
+    let here : k + 4 * 0 ≡ k = omega arith in
+    let past : k + 4 + 4 * length ns ≡ k + 4 * suc (length ns) = omega arith in
+    let first = cut fs (spelled 4 n) k 4 (subst (λ j. take 4 (drop j fs) ≡ spelled 4 n) here (each 0 (omega arith))) in
+    let rest = cut_joined fs ns (k + 4) (λ i below. let on : k + 4 * suc i ≡ k + 4 + 4 * i = omega arith in subst (λ j. take 4 (drop j fs) ≡ spelled 4 (get_or ns i 0)) on (each (suc i) (omega arith))) in
+    first ∙ ap (λ l. spelled 4 n ++ l) (rest ∙ ap (λ j. flat_map (spelled 4) ns ++ drop j fs) past) ∙ sym (append_assoc (spelled 4 n) (flat_map (spelled 4) ns) _)
 
 pub has_one : (n m : ℕ) → has n (m ∷ []) ≡ true → n ≡ m
 has_one n m e = ⊎_elim (λ same. eqb-true n m same) (λ none. absurd (false≢true none)) (or_cases (eqb n m) false e)
@@ -42,9 +39,7 @@ gate_lengths n e =
     (λ bcd. ⊎_elim (λ b. let h = eqb-true _ _ b in (omega arith, omega arith)) (λ cd. ⊎_elim (λ c. let h = eqb-true _ _ c in (omega arith, omega arith)) (λ d. let h = has_one _ 30 d in (omega arith, omega arith)) (or_cases (eqb (suc n) 26) (has (suc n) (30 ∷ [])) cd)) (or_cases (eqb (suc n) 22) (has (suc n) (26 ∷ 30 ∷ [])) bcd))
     (or_cases (eqb (suc n) 18) (has (suc n) (22 ∷ 26 ∷ 30 ∷ [])) e)
 
--- each of the first numbers is a line
-pub on_lines_of : (lines : ℕ) (ns : List ℕ) (count : ℕ) → count ≤ length ns → ((i : ℕ) → i < count → in_range 1 lines (get_or ns i 0) ≡ true) → on_lines lines (take count ns) ≡ true
-on_lines_of lines ns zero within each = refl
-on_lines_of lines ns (suc n) within each =
-    subst (λ l. on_lines lines l ≡ true) (sym (take-suc ns n 0 within))
-    (every_push (in_range 1 lines) (take n ns) (get_or ns n 0) (on_lines_of lines ns n (omega arith) (λ i below. each i (omega arith))) (each n (omega arith)))
+-- each of the numbers is a line
+pub on_lines_of : (lines : ℕ) (ns : List ℕ) → ((i : ℕ) → i < length ns → in_range 1 lines (get_or ns i 0) ≡ true) → on_lines lines ns ≡ true
+on_lines_of lines [] each = refl
+on_lines_of lines (n ∷ ns) each = and_from _ _ (each 0 (omega arith)) (on_lines_of lines ns (λ i below. each (suc i) (omega arith)))

@@ -1,5 +1,5 @@
 -- The first of a list of tests that a record fails.
-use Rattle.std.proofs.Common.{◌≡◌, ℕ, zero, suc, ◌+◌, ◌*◌, ◌<◌, ◌≤◌, List, [], ◌∷◌, ◌++◌, get_or, refl, subst, subst₂, inl, inr, ⊎_elim, arith}
+use Rattle.std.proofs.Common.{◌≡◌, ℕ, zero, suc, ◌+◌, ◌*◌, ◌<◌, ◌≤◌, List, [], ◌∷◌, ◌++◌, get_or, refl, subst, inl, inr, ⊎_elim, arith}
 use Rattle.std.specs.List.{AllByRecursion}
 use Rattle.std.proofs.ByRecursion.{All-append}
 use Rattle.std.proofs.lemmas.Bool.{cases_lt}
@@ -29,10 +29,6 @@ failed_after r at t ts f pass bad = failed_right r at (t ∷ []) ts f (pass, tt)
 
 pub number_pass : (r : List ℕ) (column width least most n : ℕ) → Shows r column width n → (least ≤ n) × (n ≤ most) → AllByRecursion (Passes r) (number_tests column width least most)
 number_pass r column width least most n shown within = ((n, shown), ((n, shown, within.0, within.1), tt))
-
--- the tests of a number whose limits are told by other names
-pub limits_are : (r : List ℕ) (at column width : ℕ) {a b : ℕ} (least most : ℕ) (f : Fault) → a ≡ least → b ≡ most → Failed r at (number_tests column width a b) f → Failed r at (number_tests column width least most) f
-limits_are r at column width least most f from to bad = subst₂ (λ l m. Failed r at (number_tests column width l m) f) from to bad
 
 pub line_pass : (r : List ℕ) (column width n : ℕ) → Shows r column width n → AllByRecursion (Passes r) (line_tests column width n)
 line_pass r column width n shown = ((n, shown), (shown, tt))

@@ -2,7 +2,8 @@
 use Rattle.std.proofs.Common.{◌≡◌, ℕ, zero, suc, ◌+◌, ◌^◌, ◌<◌, ◌≤◌, true, ◌&&◌, eqb, ltb, List, [], ◌∷◌, ◌++◌, length, sym, refl, subst, append_assoc, append-nil, arith, length-append}
 use Rattle.std.proofs.lemmas.Bool.{lt-ltb, le-ltb, eqb-true, eq-eqb, and_parts}
 use Rattle.netlist.specs.Drafts.{Sheet, within_limits, with_gate, with_output, dead}
-use Rattle.netlist.specs.Gates.{Gate, every, legal, on_lines, in_range}
+use Rattle.netlist.specs.Gates.{Gate, legal, on_lines, in_range}
+use Rattle.std.specs.List.{list_all}
 use Rattle.netlist.proofs.Ranges.{bounds}
 use Rattle.deck.specs.Rows.{Row, header, input, gate, output, end, input_rows, gate_rows, output_rows}
 use Rattle.deck.specs.Progress.{Progress, blank, going, over, rows, Begun, Legal, Expected, header_next, input_next, gate_next, output_next, end_next, nothing_next, expected}
@@ -73,7 +74,7 @@ module _ (i g o : ℕ) (limits : Limited i g o) where
   gate_follows told n gs a first place few fine =
       rw (place, le-ltb told i first, lt-ltb (length gs) g few) (a_gate {n = suc (i + length gs)} {m = i + g} (omega arith) (omega arith) fine)
 
-  gates_lead : (told n : ℕ) (gs hs : List Gate) → n ≡ suc (i + length gs) → (0 < length hs → told ≡ i) → length gs + length hs ≤ g → every (legal (i + g)) hs ≡ true → Leads (draft i g o told gs []) (gate_rows n hs) (draft i g o told (gs ++ hs) [])
+  gates_lead : (told n : ℕ) (gs hs : List Gate) → n ≡ suc (i + length gs) → (0 < length hs → told ≡ i) → length gs + length hs ≤ g → list_all (legal (i + g)) hs ≡ true → Leads (draft i g o told gs []) (gate_rows n hs) (draft i g o told (gs ++ hs) [])
   gates_lead told n gs [] place first few fine = rw append-nil
   gates_lead told n gs (a ∷ hs) place first few fine =
       let parts = and_parts (legal (i + g) a) _ fine in

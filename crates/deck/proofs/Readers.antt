@@ -22,7 +22,7 @@ use Rattle.deck.proofs.Taking.{length-begun, rows_input, rows_gate, rows_output}
 
 -- what a draft's own numbers add to what its phase says
 module _ (d : Draft) (told : ℕ) where
-  begun : limited (sheet d) ≡ true → told ≤ d.inputs → (0 < d.drawn → told ≡ d.inputs) → (0 < d.named → d.drawn ≡ d.gates) → Begun (sheet d) told
+  begun : limited (sheet d) ≡ true → told ≤ d.size.inputs → (0 < d.drawn → told ≡ d.size.inputs) → (0 < d.named → d.drawn ≡ d.size.gates) → Begun (sheet d) told
   begun limits few first next =
       let gates = drawn_is d in
       let outputs = named_is d in
@@ -37,11 +37,11 @@ module _ (d : Draft) (told : ℕ) where
         gates_first = λ some. gates ∙ next (omega arith);
       }
 
-begun_whole : (d : Draft) → agrees End (sheet d) ≡ true → Begun (sheet d) d.inputs
+begun_whole : (d : Draft) → agrees End (sheet d) ≡ true → Begun (sheet d) d.size.inputs
 begun_whole d e =
     let t = ending (sheet d) e in
     let gates = drawn_is d in
-    begun d d.inputs t.limits (omega arith) (λ some. refl) (λ some. omega arith)
+    begun d d.size.inputs t.limits (omega arith) (λ some. refl) (λ some. omega arith)
 
 -- by phase: told, drawn and named are within their limits
 legal_in : (phase : Phase) (d : Draft) → agrees phase (sheet d) ≡ true → Legal (progress phase (sheet d))
@@ -54,18 +54,18 @@ legal_in (Inputs told) d e =
 legal_in Gates d e =
     let t = drawing (sheet d) e in
     let outputs = named_is d in
-    begun d d.inputs t.limits (omega arith) (λ some. refl) (λ some. absurd (omega arith))
+    begun d d.size.inputs t.limits (omega arith) (λ some. refl) (λ some. absurd (omega arith))
 legal_in Outputs d e =
     let t = naming (sheet d) e in
     let gates = drawn_is d in
-    begun d d.inputs t.limits (omega arith) (λ some. refl) (λ some. omega arith)
+    begun d d.size.inputs t.limits (omega arith) (λ some. refl) (λ some. omega arith)
 legal_in End d e = begun_whole d e
 legal_in Done d e = record { begun = begun_whole d e; all_there = all_there (sheet d) (ending (sheet d) e) }
 
 pub reader_legal : (d : DeckReader) → Legal (progress_of d)
 reader_legal d = legal_in d.phase d.draft d.phased
 
-few_begun : (d : Draft) (told : ℕ) → told ≤ d.inputs → length (rows_begun (sheet d) told) ≤ 1281
+few_begun : (d : Draft) (told : ℕ) → told ≤ d.size.inputs → length (rows_begun (sheet d) told) ≤ 1281
 few_begun d told few =
     let rows = length-begun (sheet d) told in
     let gates = drawn_is d in
@@ -75,12 +75,12 @@ few_begun d told few =
 few_in : (phase : Phase) (d : Draft) → agrees phase (sheet d) ≡ true → length (rows (progress phase (sheet d))) ≤ 1282
 few_in Header d e = omega arith
 few_in (Inputs told) d e = omega (arith, few_begun d told (legal_in (Inputs told) d e).inputs_few)
-few_in Gates d e = omega (arith, few_begun d d.inputs (omega arith))
-few_in Outputs d e = omega (arith, few_begun d d.inputs (omega arith))
-few_in End d e = omega (arith, few_begun d d.inputs (omega arith))
+few_in Gates d e = omega (arith, few_begun d d.size.inputs (omega arith))
+few_in Outputs d e = omega (arith, few_begun d d.size.inputs (omega arith))
+few_in End d e = omega (arith, few_begun d d.size.inputs (omega arith))
 few_in Done d e =
-    let longer = length-append (rows_begun (sheet d) d.inputs) (end ∷ []) in
-    omega (arith, few_begun d d.inputs (omega arith))
+    let longer = length-append (rows_begun (sheet d) d.size.inputs) (end ∷ []) in
+    omega (arith, few_begun d d.size.inputs (omega arith))
 
 pub few_records : (d : DeckReader) → d.records ≤ 1282
 few_records d = rw d.counted (few_in d.phase d.draft d.phased)
@@ -113,18 +113,18 @@ module _ (d : DeckReader) (told : ℕ) (e : d.phase ≡ Inputs told) where
       subst (λ n. rows (going (sheet d.draft) n) ≡ rows (progress_of d) ++ (input n ∷ [])) (sym (add-one told))
       (rows_input (sheet d.draft) told at_inputs.no_gates at_inputs.no_outputs ∙ ap (λ p. rows p ++ (input (suc told) ∷ [])) (sym (progress_in d (Inputs told) e)))
 
-  last_input : told + 1 ≡ d.draft.inputs → Stands d Gates (sheet d.draft) (input (told + 1))
+  last_input : told + 1 ≡ d.draft.size.inputs → Stands d Gates (sheet d.draft) (input (told + 1))
   last_input last =
       let t = at_inputs in
-      let l = limited-by d.draft.inputs d.draft.gates d.draft.outputs t.limits in
+      let l = limited-by d.draft.size.inputs d.draft.size.gates d.draft.size.outputs t.limits in
       record { agreed = agrees_drawing (sheet d.draft) (record { limits = t.limits; few = omega arith; no_outputs = t.no_outputs }); grown = ap (λ n. rows (going (sheet d.draft) n)) (sym last) ∙ input_grown }
 
-  next_input : (told + 1 ≡ d.draft.inputs → ⊥) → Stands d (Inputs (told + 1)) (sheet d.draft) (input (told + 1))
+  next_input : (told + 1 ≡ d.draft.size.inputs → ⊥) → Stands d (Inputs (told + 1)) (sheet d.draft) (input (told + 1))
   next_input more =
       let t = at_inputs in
       record { agreed = agrees_telling (sheet d.draft) (told + 1) (record { limits = t.limits; early = omega arith; no_gates = t.no_gates; no_outputs = t.no_outputs }); grown = input_grown }
 
-  pub input_stands : (p : Phase) → ((told + 1 ≡ d.draft.inputs) × (p ≡ Gates)) ⊎ ((told + 1 ≡ d.draft.inputs → ⊥) × (p ≡ Inputs (told + 1))) → Stands d p (sheet d.draft) (input (told + 1))
+  pub input_stands : (p : Phase) → ((told + 1 ≡ d.draft.size.inputs) × (p ≡ Gates)) ⊎ ((told + 1 ≡ d.draft.size.inputs → ⊥) × (p ≡ Inputs (told + 1))) → Stands d p (sheet d.draft) (input (told + 1))
   input_stands p way =
       let At : Phase → Type 0 = λ q. Stands d q (sheet d.draft) (input (told + 1)) in
       ⊎_elim (λ last. subst At (sym last.1) (last_input last.0)) (λ more. subst At (sym more.1) (next_input more.0)) way
@@ -136,13 +136,13 @@ module _ (d : DeckReader) (e : d.phase ≡ Gates) where
   gate_is_next : takes_gate (sheet d.draft) ≡ true
   gate_is_next = lt-ltb _ _ at_gates.few
 
-  pub reader_expects_gate : expected (progress_of d) ≡ gate_next (suc (d.draft.inputs + length (sheet d.draft).circuit.gates)) (lines (sheet d.draft))
+  pub reader_expects_gate : expected (progress_of d) ≡ gate_next (suc (d.draft.size.inputs + length (sheet d.draft).circuit.gates)) (lines (sheet d.draft))
   reader_expects_gate = ap expected (progress_in d Gates e) ∙ expects_gate _ at_gates
 
   module _ (g : Gate) (t : Draft) (is : sheet t ≡ with_gate (sheet d.draft) g) where
-    gate_grown : rows (going (sheet t) t.inputs) ≡ rows (progress_of d) ++ (gate (suc (d.draft.inputs + length (sheet d.draft).circuit.gates)) g ∷ [])
+    gate_grown : rows (going (sheet t) t.size.inputs) ≡ rows (progress_of d) ++ (gate (suc (d.draft.size.inputs + length (sheet d.draft).circuit.gates)) g ∷ [])
     gate_grown =
-        ap (λ (s : Sheet). rows (going s s.circuit.inputs)) is ∙ rows_gate (sheet d.draft) d.draft.inputs g at_gates.no_outputs ∙ ap (λ p. rows p ++ (gate (suc (d.draft.inputs + length (sheet d.draft).circuit.gates)) g ∷ [])) (sym (progress_in d Gates e))
+        ap (λ (s : Sheet). rows (going s s.circuit.inputs)) is ∙ rows_gate (sheet d.draft) d.draft.size.inputs g at_gates.no_outputs ∙ ap (λ p. rows p ++ (gate (suc (d.draft.size.inputs + length (sheet d.draft).circuit.gates)) g ∷ [])) (sym (progress_in d Gates e))
 
     -- what stays, and one gate more
     limits_stay : limited (sheet t) ≡ true
@@ -151,21 +151,21 @@ module _ (d : DeckReader) (e : d.phase ≡ Gates) where
     none_named : length (sheet t).circuit.outputs ≡ 0
     none_named = ap (λ (s : Sheet). length s.circuit.outputs) is ∙ at_gates.no_outputs
 
-    last_gate : takes_gate (sheet t) ≡ false → Stands d Outputs (sheet t) (gate (suc (d.draft.inputs + length (sheet d.draft).circuit.gates)) g)
+    last_gate : takes_gate (sheet t) ≡ false → Stands d Outputs (sheet t) (gate (suc (d.draft.size.inputs + length (sheet d.draft).circuit.gates)) g)
     last_gate full =
-        let l = limited-by t.inputs t.gates t.outputs limits_stay in
+        let l = limited-by t.size.inputs t.size.gates t.size.outputs limits_stay in
         let over = ltb-false _ _ full in
         let drawn = drawn_is t in
         let none = none_named in
         record { agreed = agrees_naming (sheet t) (record { limits = limits_stay; all_gates = omega arith; few = omega arith }); grown = gate_grown }
 
-    next_gate : takes_gate (sheet t) ≡ true → Stands d Gates (sheet t) (gate (suc (d.draft.inputs + length (sheet d.draft).circuit.gates)) g)
+    next_gate : takes_gate (sheet t) ≡ true → Stands d Gates (sheet t) (gate (suc (d.draft.size.inputs + length (sheet d.draft).circuit.gates)) g)
     next_gate more =
         record { agreed = agrees_drawing (sheet t) (record { limits = limits_stay; few = ltb-true _ _ more; no_outputs = none_named }); grown = gate_grown }
 
-    pub gate_stands : (p : Phase) → ((true ≡ takes_gate (sheet t)) × (p ≡ Gates)) ⊎ ((false ≡ takes_gate (sheet t)) × (p ≡ Outputs)) → Stands d p (sheet t) (gate (suc (d.draft.inputs + length (sheet d.draft).circuit.gates)) g)
+    pub gate_stands : (p : Phase) → ((true ≡ takes_gate (sheet t)) × (p ≡ Gates)) ⊎ ((false ≡ takes_gate (sheet t)) × (p ≡ Outputs)) → Stands d p (sheet t) (gate (suc (d.draft.size.inputs + length (sheet d.draft).circuit.gates)) g)
     gate_stands p way =
-        let At : Phase → Type 0 = λ q. Stands d q (sheet t) (gate (suc (d.draft.inputs + length (sheet d.draft).circuit.gates)) g) in
+        let At : Phase → Type 0 = λ q. Stands d q (sheet t) (gate (suc (d.draft.size.inputs + length (sheet d.draft).circuit.gates)) g) in
         ⊎_elim (λ more. subst At (sym more.1) (next_gate (sym more.0))) (λ last. subst At (sym last.1) (last_gate (sym last.0))) way
 
   -- the draft takes a legal gate
@@ -183,13 +183,13 @@ module _ (d : DeckReader) (e : d.phase ≡ Outputs) where
   reader_expects_output = ap expected (progress_in d Outputs e) ∙ expects_output _ at_outputs
 
   module _ (n : ℕ) (t : Draft) (is : sheet t ≡ with_output (sheet d.draft) n) where
-    output_grown : rows (going (sheet t) t.inputs) ≡ rows (progress_of d) ++ (output n ∷ [])
-    output_grown = ap (λ (s : Sheet). rows (going s s.circuit.inputs)) is ∙ rows_output (sheet d.draft) d.draft.inputs n ∙ ap (λ p. rows p ++ (output n ∷ [])) (sym (progress_in d Outputs e))
+    output_grown : rows (going (sheet t) t.size.inputs) ≡ rows (progress_of d) ++ (output n ∷ [])
+    output_grown = ap (λ (s : Sheet). rows (going s s.circuit.inputs)) is ∙ rows_output (sheet d.draft) d.draft.size.inputs n ∙ ap (λ p. rows p ++ (output n ∷ [])) (sym (progress_in d Outputs e))
 
     limits_kept : limited (sheet t) ≡ true
     limits_kept = ap limited is ∙ at_outputs.limits
 
-    gates_stay : length (sheet t).circuit.gates ≡ t.gates
+    gates_stay : length (sheet t).circuit.gates ≡ t.size.gates
     gates_stay = ap (λ (s : Sheet). length s.circuit.gates) is ∙ at_outputs.all_gates ∙ sym (ap (λ (s : Sheet). s.gates) is)
 
     next_output : takes_output (sheet t) ≡ true → Stands d Outputs (sheet t) (output n)
@@ -198,7 +198,7 @@ module _ (d : DeckReader) (e : d.phase ≡ Outputs) where
     last_output : takes_output (sheet t) ≡ false → Stands d End (sheet t) (output n)
     last_output full =
         let named = named_is t in
-        let over = ⊎_elim (λ no_gates. absurd (both_ways _ no_gates (eq-eqb _ _ gates_stay))) (λ none. ltb-false _ _ none) (and_cases (eqb (length (sheet t).circuit.gates) t.gates) (ltb (length (sheet t).circuit.outputs) t.outputs) full) in
+        let over = ⊎_elim (λ no_gates. absurd (both_ways _ no_gates (eq-eqb _ _ gates_stay))) (λ none. ltb-false _ _ none) (and_cases (eqb (length (sheet t).circuit.gates) t.size.gates) (ltb (length (sheet t).circuit.outputs) t.size.outputs) full) in
         record { agreed = agrees_ending (sheet t) (record { limits = limits_kept; all_gates = gates_stay; all_outputs = omega arith }); grown = output_grown }
 
     pub output_stands : (p : Phase) → ((true ≡ takes_output (sheet t)) × (p ≡ Outputs)) ⊎ ((false ≡ takes_output (sheet t)) × (p ≡ End)) → Stands d p (sheet t) (output n)

@@ -20,7 +20,10 @@ impl fmt::Display for Entry {
                 let inputs = size.inputs;
                 let gates = size.gates;
                 let outputs = size.outputs;
-                write!(f, "header, {inputs} inputs, {gates} gates, {outputs} outputs")
+                write!(
+                    f,
+                    "header, {inputs} inputs, {gates} gates, {outputs} outputs"
+                )
             }
             Entry::Input(line) => write!(f, "input on line {line}"),
             Entry::Gate(line, row) => write!(f, "gate on line {line}: {row}"),

@@ -195,8 +195,10 @@ impl<'a> Record<'a> {
         let kind = self.kind()?;
         let delay = self.number(DELAY, Draft::MOST_DELAY as u64)?;
         let reads = self.reads(count, lines)?;
-        GateRow::new(kind, delay as u32, &reads)
-            .map_err(|refusal| self.fault(refusal, Layer::Record, KIND.first))
+        match GateRow::new(kind, delay as u32, &reads) {
+            Ok(row) => Ok(row),
+            Err(refusal) => Err(self.fault(refusal, Layer::Record, KIND.first)),
+        }
     }
 
     // O: the line that an output names.

@@ -63,8 +63,11 @@ impl DeckReader {
     {
         let mut used = 0;
         while self.phase != Phase::Done {
-            let taken = self.next(&bytes[used..])?;
-            used += taken.bytes;
+            let Taken {
+                entry: _entry,
+                bytes: length,
+            } = self.next(&bytes[used..])?;
+            used += length;
         }
         Ok(used)
     }

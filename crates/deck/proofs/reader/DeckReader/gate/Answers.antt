@@ -1,9 +1,6 @@
-use Rattle.std.proofs.Common.{◌≡◌, ◌-◌, true, [], ◌∷◌, ◌++◌, length, take, sym, refl, ap, ◌∙◌, subst, inl, inr, arith}
-use native.Mathlib.Nat.{sub-zero}
+use Rattle.std.proofs.Common.{◌≡◌, true, ◌∷◌, [], ◌++◌, length, sym, refl, ap, ◌∙◌, subst, inl, inr, arith}
 use Rattle.netlist.specs.Drafts.{sheet, lines}
-use Rattle.netlist.specs.declared.row.GateRow.{GateRow}
 use Rattle.netlist.specs.Gates.{Gate, legal}
-use Rattle.netlist.specs.Rows.{gate_of}
 use Rattle.deck.specs.Progress.{gate_next, rows}
 use Rattle.deck.specs.Readers.{progress_of}
 use Rattle.deck.specs.Records.{whole, Failed, fields_tests}
@@ -25,39 +22,35 @@ returns-in_err-row c =
 pub overflow_add-self : goal.overflow_add-self
 overflow_add-self c = omega (arith, few_records c.args.self.now)
 
--- the gate that is handed to the draft is that of the row
-handed : GateRow → Gate
-handed row = record { kind = row.kind; delay = row.delay; reads = take (row.count - 0) row.lines }
-
-same_gate : (row : GateRow) → handed row ≡ gate_of row
-unfolding handed
-same_gate row = ap (λ k. record { kind = row.kind; delay = row.delay; reads = take k row.lines }) (sub-zero row.count)
-
 pub invariant_of-self : goal.invariant_of-self
-unfolding handed
 invariant_of-self c =
     let d = c.args.self.now in
     let row = c.in_ok-row.row in
-    let fine : legal (lines (sheet d.draft)) (handed row) ≡ true = ap (legal (lines (sheet d.draft))) (same_gate row) ∙ ap (λ m. legal m (gate_of row)) (sym c.lines.ensures) ∙ c.in_ok-row.ensures.1 in
+    let view = c.row.view_is in
+    let handed : Gate = record { kind = c.row.inside.kind; delay = c.row.inside.delay; reads = c.reads.result.now } in
+    let same : handed ≡ row.gate = λ i. record { kind = (view i).gate.kind; delay = (view i).gate.delay; reads = c.reads.ensures i } in
+    let fine : legal (lines (sheet d.draft)) handed ≡ true = ap (legal (lines (sheet d.draft))) same ∙ ap (λ m. legal m row.gate) (sym c.lines.ensures) ∙ c.in_ok-row.ensures.1 in
     let t = c.add_gate.new.self in
-    let is = gate_added d c.requires.phase (handed row) t c.add_gate.result c.add_gate.ensures.answers c.add_gate.ensures.adds fine in
-    let at = gate_stands d c.requires.phase (handed row) t is c.if-takes_gate.phase (elim c.if-takes_gate.branch [ then-takes_gate w ↦ inl (w.if-takes_gate.ensures, w.phase-is) | else-takes_gate w ↦ inr (w.if-takes_gate.ensures, w.phase-is) ]) in
+    let is = gate_added d c.requires.phase handed t c.add_gate.result c.add_gate.ensures.answers c.add_gate.ensures.adds fine in
+    let at = gate_stands d c.requires.phase handed t is c.if-takes_gate.phase (elim c.if-takes_gate.branch [ then-takes_gate w ↦ inl (w.if-takes_gate.ensures, w.phase-is) | else-takes_gate w ↦ inr (w.if-takes_gate.ensures, w.phase-is) ]) in
     record {
       phased = at.agreed;
       counted = counted_more d _ _ at.grown;
     }
 
 pub returns : goal.returns
-unfolding handed
 returns c =
     let d = c.args.self.now in
     let row = c.in_ok-row.row in
-    let fine : legal (lines (sheet d.draft)) (handed row) ≡ true = ap (legal (lines (sheet d.draft))) (same_gate row) ∙ ap (λ m. legal m (gate_of row)) (sym c.lines.ensures) ∙ c.in_ok-row.ensures.1 in
+    let view = c.row.view_is in
+    let handed : Gate = record { kind = c.row.inside.kind; delay = c.row.inside.delay; reads = c.reads.result.now } in
+    let same : handed ≡ row.gate = λ i. record { kind = (view i).gate.kind; delay = (view i).gate.delay; reads = c.reads.ensures i } in
+    let fine : legal (lines (sheet d.draft)) handed ≡ true = ap (legal (lines (sheet d.draft))) same ∙ ap (λ m. legal m row.gate) (sym c.lines.ensures) ∙ c.in_ok-row.ensures.1 in
     let t = c.add_gate.new.self in
-    let is = gate_added d c.requires.phase (handed row) t c.add_gate.result c.add_gate.ensures.answers c.add_gate.ensures.adds fine in
+    let is = gate_added d c.requires.phase handed t c.add_gate.result c.add_gate.ensures.answers c.add_gate.ensures.adds fine in
     record {
-      spelling = whole_is c.args.source.now (gate c.next_line-line.result (gate_of row)) 71 c.requires.letter c.in_ok-row.ensures.0 refl;
-      unmarked = c.in_ok-row.ensures.3;
-      one_more = (gate_stands d c.requires.phase (handed row) t is c.if-takes_gate.phase (elim c.if-takes_gate.branch [ then-takes_gate w ↦ inl (w.if-takes_gate.ensures, w.phase-is) | else-takes_gate w ↦ inr (w.if-takes_gate.ensures, w.phase-is) ])).grown
-          ∙ (λ i. rows (progress_of d) ++ (gate (sym c.next_line-line.ensures i) (same_gate row i) ∷ []));
+      spelling = whole_is c.args.source.now (gate c.next_line-line.result row.gate) 71 c.requires.letter c.in_ok-row.ensures.0 refl;
+      unmarked = c.in_ok-row.ensures.2;
+      one_more = (gate_stands d c.requires.phase handed t is c.if-takes_gate.phase (elim c.if-takes_gate.branch [ then-takes_gate w ↦ inl (w.if-takes_gate.ensures, w.phase-is) | else-takes_gate w ↦ inr (w.if-takes_gate.ensures, w.phase-is) ])).grown
+          ∙ (λ i. rows (progress_of d) ++ (gate (sym c.next_line-line.ensures i) (same i) ∷ []));
     }

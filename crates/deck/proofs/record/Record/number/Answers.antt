@@ -1,5 +1,4 @@
 use Rattle.std.proofs.Common.{◌≤◌, ap, arith}
-use Rattle.std.specs.Range.{range_inclusive_start, range_inclusive_end}
 use Rattle.std.proofs.lemmas.Grind.{common_steps}
 use Rattle.deck.specs.Faults.{told}
 use Rattle.deck.specs.Records.{whole}
@@ -17,13 +16,11 @@ returns-in_err-number c =
 pub returns-else-contains : goal.returns-else-contains
 returns-else-contains c =
     let span = c.args.span in
-    let least = range_inclusive_start c.args.limits in
-    let most = range_inclusive_end c.args.limits in
     let n = c.in_ok-number.number in
     let shown = c.in_ok-number.ensures in
-    let out : least ≤ n → n ≤ most → ⊥ = λ low high. grind (arith, common_steps) in
+    let out : 1 ≤ n → n ≤ c.args.most → ⊥ = λ low high. grind (arith, common_steps) in
     failed_after _ _ (figure span.first span.width) _ _ (n, shown)
-    (failed_one _ _ (range span.first span.width least most) _ _ (record {
+    (failed_one _ _ (range span.first span.width 1 c.args.most) _ _ (record {
       fails = λ p. let same = shows_one (whole c.args.self.now) span.first span.width n p.0 span.narrow shown p.1 in out (omega arith) (omega arith);
       is = ap told c.fault.ensures;
     }))

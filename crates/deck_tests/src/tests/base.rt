@@ -1,6 +1,7 @@
 // The deck that most tests start from, and what a reading answers.
 use deck::closing::read_netlist;
 use deck::fault::Fault;
+use netlist::size::Size;
 use std::alloc::{AllocError, Global};
 use std::process::Abort;
 use std::test::Fail;
@@ -20,6 +21,14 @@ pub(super) const BASE: &[u8; 70] =
 
 // A fault: its number, its layer's letter, its record and its column.
 pub(super) type Told = (u8, char, usize, usize);
+
+pub(super) fn sized(inputs: usize, gates: usize, outputs: usize) -> Size {
+    Size {
+        inputs,
+        gates,
+        outputs,
+    }
+}
 
 // Reads a deck: the bytes that it took, or its fault and the netlist without lines. A failure shows the note.
 pub(super) fn check_outcome(

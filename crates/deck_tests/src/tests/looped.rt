@@ -1,4 +1,5 @@
 // Which lines of a closed netlist are looped.
+use super::base::sized;
 use netlist::draft::Draft;
 use netlist::kind::Kind;
 use std::test::Fail;
@@ -19,7 +20,7 @@ fn gates_whose_line_leads_back(rt: HostRuntime) -> Result<(), Fail> {
         (&[10, 2], true),
         (&[4, 6, 9], false),
     ];
-    let mut draft = Draft::new(2, gates.len(), 1);
+    let mut draft = Draft::new(sized(2, gates.len(), 1));
     for (lines, _) in gates {
         draft.add_gate(Kind::Nor, 1, lines)?;
     }

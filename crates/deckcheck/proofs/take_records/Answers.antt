@@ -9,7 +9,7 @@ overflow_add-used g c =
     let used = c.loop-number.used in
     let part = length-take (length bytes - used) (drop used bytes) in
     let rest = length-drop used bytes in
-    let within : used + c.in-Ok.taken.bytes ≤ length bytes = omega (arith, c.loop-number.invariant, took_within _ _ _ _ c.in-Ok.ensures) in
+    let within : used + c.in_ok-taken.taken.bytes ≤ length bytes = omega (arith, c.loop-number.invariant, took_within _ _ _ _ c.in_ok-taken.ensures) in
     search rules
 
 pub loop-number-preserved : goal.loop-number-preserved
@@ -18,4 +18,4 @@ loop-number-preserved g c =
     let used = c.loop-number.used in
     let part = length-take (length bytes - used) (drop used bytes) in
     let rest = length-drop used bytes in
-    omega (arith, c.loop-number.invariant, took_within _ _ _ _ c.in-Ok.ensures)
+    omega (arith, c.loop-number.invariant, took_within _ _ _ _ c.in_ok-taken.ensures)

@@ -1,14 +1,14 @@
 -- What is read after the blanks is the decimal of a number just where the whole text spells that number.
-use Rattle.std.proofs.Common.{◌≡◌, ℕ, ◌-◌, ◌^◌, ◌<◌, ◌≤◌, List, [], ◌++◌, length, get_or, drop, replicate, Some, None, decimal, Option, sym, ap, ◌∙◌, subst, ⊎_elim, append-nil, add-zero, arith, length-append, length-drop, get_or-drop, MatchOption}
+use Rattle.std.proofs.Common.{◌≡◌, ℕ, ◌-◌, ◌^◌, ◌<◌, ◌≤◌, List, [], ◌++◌, length, get_or, drop, replicate, Some, None, Result, Ok, Err, decimal, Option, sym, ap, ◌∙◌, subst, ⊎_elim, append-nil, add-zero, arith, length-append, length-drop, get_or-drop, MatchOption}
 use lib.ListN.{length-replicate}
-use Rattle.std.specs.Option.{SomeIff}
+use Rattle.std.specs.Option.{SomeIff, ok_or}
 use Rattle.std.specs.Str.Parse.{AllDigits, digits_value}
 use Rattle.std.proofs.lemmas.Fmt.{decimal_is_IsNumeral, decimal_digit, decimal-digits_value, first_decimal}
 use Rattle.std.proofs.lemmas.List.{drop_all}
 use Rattle.std.proofs.lemmas.Str.Parse.{numerals_by_value, tells_digits}
 use Rattle.std.proofs.lemmas.Bool.{cases_lt}
-use Rattle.columns.specs.declared.Field.{Field}
-use Rattle.columns.specs.declared.Field.TheVariants.{Number, Blank, Unreadable}
+use Rattle.columns.specs.declared.FieldError.{FieldError}
+use Rattle.columns.specs.declared.FieldError.TheVariants.{Blank, Unreadable}
 use Rattle.columns.specs.Spelling.{Means}
 use Rattle.columns.proofs.Spelled.{after_blanks_same, decimal_no_blank, means_one}
 
@@ -26,21 +26,21 @@ decimal_by_value None ds some lead h = λ n small is. h (subst (AllDigits 10) (s
 
 -- r blanks, and then what is left of the text
 module _ (text : List ℕ) (r : ℕ) (front : text ≡ replicate r 32 ++ drop r text) where
-  pub blank_if_all : r ≡ length text → Means text Blank
+  pub blank_if_all : r ≡ length text → Means text (Err Blank)
   blank_if_all all =
       front
       ∙ ap (λ l. replicate r 32 ++ l) (drop_all r text (omega arith))
       ∙ append-nil (replicate r 32)
       ∙ ap (λ n. replicate n 32) all
 
-  pub number_if_decimal : (n : ℕ) (ds : List ℕ) → (n < 2 ^ 64) × (ds ≡ decimal n) → ds ≡ drop r text → Means text (Number n)
+  pub number_if_decimal : (n : ℕ) (ds : List ℕ) → (n < 2 ^ 64) × (ds ≡ decimal n) → ds ≡ drop r text → Means text (Ok n)
   number_if_decimal n ds decimal-of whole =
       let is = sym whole ∙ decimal-of.1 in
       let count : r ≡ length text - length (decimal n) = omega (arith, ap length front, length-append (replicate r 32) (drop r text), length-replicate {A = ℕ} r 32, ap length is) in
       (decimal-of.0, front ∙ (λ i. replicate (count i) 32 ++ is i))
 
   -- where the byte after the blanks is no blank, the text is neither a spelling nor blank
-  pub unreadable_if_neither : (get_or text r 0 ≡ 32 → ⊥) → r < length text → (ds : List ℕ) → ((n : ℕ) → n < 2 ^ 64 → ds ≡ decimal n → ⊥) → ds ≡ drop r text → Means text Unreadable
+  pub unreadable_if_neither : (get_or text r 0 ≡ 32 → ⊥) → r < length text → (ds : List ℕ) → ((n : ℕ) → n < 2 ^ 64 → ds ≡ decimal n → ⊥) → ds ≡ drop r text → Means text (Err Unreadable)
   unreadable_if_neither stops more ds none whole =
       let stop : get_or (drop r text) 0 0 ≡ 32 → ⊥ = rw (get_or-drop, add-zero) stops in (
         λ n small is. none n small (whole ∙ after_blanks_same r _ (drop r text) (decimal n) stop (decimal_no_blank n small) (sym front ∙ is)),
@@ -49,5 +49,10 @@ module _ (text : List ℕ) (r : ℕ) (front : text ≡ replicate r 32 ++ drop r 
             omega (arith, length-drop r text, ap length empty),
       )
 
-pub one_meaning : (text : List ℕ) (r : Field) → Means text r → record { means : Means text r; only : (f : Field) → Means text f → f ≡ r }
+  -- what the reading of the bytes after the blanks gives
+  pub meaning : (get_or text r 0 ≡ 32 → ⊥) → r < length text → (found : Option ℕ) (ds : List ℕ) → MatchOption found ((n : ℕ) → n < 2 ^ 64 → ds ≡ decimal n → ⊥) (λ n. (n < 2 ^ 64) × (ds ≡ decimal n)) → ds ≡ drop r text → Means text (ok_or found Unreadable)
+  meaning stops more (Some n) ds is whole = number_if_decimal n ds is whole
+  meaning stops more None ds none whole = unreadable_if_neither stops more ds none whole
+
+pub one_meaning : (text : List ℕ) (r : Result ℕ FieldError) → Means text r → record { means : Means text r; only : (f : Result ℕ FieldError) → Means text f → f ≡ r }
 one_meaning text r m = record { means = m; only = λ f p. means_one text f r p m }

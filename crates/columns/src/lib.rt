@@ -1,10 +1,14 @@
 // Numbers in columns: a field of a record, right-justified after blanks.
 #![tactic(auto)]
 
-ghost use Rattle.std.specs.Prelude.{◌≡◌, ℕ, ◌-◌, ◌^◌, ◌<◌, ◌≤◌, true, false, ◌++◌, length, drop, replicate, decimal, Decides, MatchOption, ◌≢◌, slice_index};
+ghost use Rattle.std.specs.Prelude.{◌≡◌, ℕ, ◌-◌, ◌^◌, ◌<◌, ◌≤◌, true, false, ◌++◌, length, drop, replicate, decimal, Decides, MatchOption, Result, Ok, Some, ◌≢◌, slice_index};
 ghost use Rattle.std.specs.Option.{SomeIff};
 ghost use Rattle.std.specs.Str.Parse.{AllDigits, digits_value};
 ghost use Rattle.columns.specs.Spelling.{Means, spelled};
+ghost use Rattle.columns.specs.declared.FieldError.{FieldError};
+
+use std::error::Error;
+use std::fmt;
 
 const BLANK: u8 = b' ';
 
@@ -12,29 +16,38 @@ const ZERO: u8 = b'0';
 
 const BASE: u64 = 10;
 
-// What stands in the columns of a number field.
+// Why columns are read as no number: they are all blank, or hold something else than one number after blanks.
 #[derive(Clone, Copy, PartialEq, Eq, Debug)]
-pub enum Field {
-    Number(u64),
+pub enum FieldError {
     Blank,
     Unreadable,
 }
 
-impl Field {
-    // The number whose decimal ends in the last column, after nothing but blanks.
-    pub fn read(text: &[u8]) -> Field
-        ensures means { Means text.now result }
-        ensures only { (f : Field) → Means text.now f → f ≡ result }
-    {
-        let blanks = blanks_before(text);
-        if blanks == text.len() {
-            return Field::Blank;
-        }
-        match number(&text[blanks..]) {
-            Some(n) => Field::Number(n),
-            None => Field::Unreadable,
-        }
+impl fmt::Display for FieldError {
+    ghost use Rattle.columns.specs.Messages.{message};
+
+    ghost output = { λ error. Some (message error) };
+
+    fn fmt<W: fmt::Write>(&self, f: &mut fmt::Formatter<W>) -> fmt::Result {
+        f.write_str(match self {
+            FieldError::Blank => "the columns are blank",
+            FieldError::Unreadable => "the columns hold no number",
+        })
     }
+}
+
+impl Error for FieldError {}
+
+// The number whose decimal ends in the last column, after nothing but blanks.
+pub fn read(text: &[u8]) -> Result<u64, FieldError>
+    ensures means { Means text.now result }
+    ensures only { (f : Result ℕ FieldError) → Means text.now f → f ≡ result }
+{
+    let blanks = blanks_before(text);
+    if blanks == text.len() {
+        return Err(FieldError::Blank);
+    }
+    number(&text[blanks..]).ok_or(FieldError::Unreadable)
 }
 
 // How many blanks the text begins with.
@@ -84,7 +97,7 @@ fn value_of(digits: &[u8]) -> Option<u64>
 pub fn write(number: u64, columns: &mut [u8]) -> bool
     ensures fits { Decides result (length (decimal number) ≤ length columns.old) }
     ensures spells { result ≡ true → columns.new ≡ spelled (length columns.old) number }
-    ensures reads { result ≡ true → Means columns.new (Field.Number number) }
+    ensures reads { result ≡ true → Means columns.new (Ok number) }
     ensures keeps { result ≡ false → columns.new ≡ columns.old }
 {
     if columns.len() < digit_count(number) {
@@ -131,30 +144,27 @@ mod tests {
 
     #[test]
     fn reads_each_kind_of_field(rt: HostRuntime) {
-        let fields: [(&[u8], Field); 17] = [
-            (b"   1", Field::Number(1)),
-            (b"   0", Field::Number(0)),
-            (b"1203", Field::Number(1203)),
-            (b"  18446744073709551615", Field::Number(u64::MAX)),
-            (
-                b"10000000000000000000",
-                Field::Number(10_000_000_000_000_000_000),
-            ),
-            (b"    ", Field::Blank),
-            (b"", Field::Blank),
-            (b"  18446744073709551616", Field::Unreadable),
-            (b"99999999999999999999", Field::Unreadable),
-            (b"  01", Field::Unreadable),
-            (b"  1 ", Field::Unreadable),
-            (b"1 23", Field::Unreadable),
-            (b"-  1", Field::Unreadable),
-            (b"+  1", Field::Unreadable),
-            (b"  1\r", Field::Unreadable),
-            (b"  1\0", Field::Unreadable),
-            (b"\xff  1", Field::Unreadable),
+        let fields: [(&[u8], Result<u64, FieldError>); 17] = [
+            (b"   1", Ok(1)),
+            (b"   0", Ok(0)),
+            (b"1203", Ok(1203)),
+            (b"  18446744073709551615", Ok(u64::MAX)),
+            (b"10000000000000000000", Ok(10_000_000_000_000_000_000)),
+            (b"    ", Err(FieldError::Blank)),
+            (b"", Err(FieldError::Blank)),
+            (b"  18446744073709551616", Err(FieldError::Unreadable)),
+            (b"99999999999999999999", Err(FieldError::Unreadable)),
+            (b"  01", Err(FieldError::Unreadable)),
+            (b"  1 ", Err(FieldError::Unreadable)),
+            (b"1 23", Err(FieldError::Unreadable)),
+            (b"-  1", Err(FieldError::Unreadable)),
+            (b"+  1", Err(FieldError::Unreadable)),
+            (b"  1\r", Err(FieldError::Unreadable)),
+            (b"  1\0", Err(FieldError::Unreadable)),
+            (b"\xff  1", Err(FieldError::Unreadable)),
         ];
         for (text, field) in fields {
-            assert_eq!(rt; Field::read(text), field);
+            assert_eq!(rt; read(text), field);
         }
     }
 

@@ -10,7 +10,6 @@ ghost use Rattle.deck.specs.Tests.{columns, Shows, has, figure, long, kind_known
 
 use crate::entry::Header;
 use crate::fault::{Fault, Layer};
-use columns::Field;
 use netlist::draft::Draft;
 use netlist::kind::Kind;
 use netlist::refusal::Refusal;
@@ -53,11 +52,9 @@ impl<'a> Record<'a> {
         requires narrow { width ≤ 19 }
         ensures { MatchResult result (λ n. Shows (whole self.now) column width n) (λ f. Refuted (whole self.now) self.now.number (figure column width) f) }
     {
-        match Field::read(self.columns(column, width)) {
-            Field::Number(number) => Ok(number),
-            Field::Blank | Field::Unreadable => {
-                Err(self.fault(Refusal::Figure, Layer::Field, column))
-            }
+        match columns::read(self.columns(column, width)) {
+            Ok(number) => Ok(number),
+            Err(_) => Err(self.fault(Refusal::Figure, Layer::Field, column)),
         }
     }
 

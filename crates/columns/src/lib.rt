@@ -1,7 +1,7 @@
 // Numbers in columns: a field of a record, right-justified after blanks.
 #![tactic(auto)]
 
-ghost use Rattle.std.specs.Prelude.{◌≡◌, ℕ, ◌-◌, ◌^◌, ◌<◌, ◌≤◌, true, false, ◌++◌, length, drop, replicate, decimal, Decides, MatchOption, Result, Ok, Some, ◌≢◌, slice_index};
+ghost use Rattle.std.specs.Prelude.{◌≡◌, ℕ, ◌-◌, ◌^◌, ◌<◌, ◌≤◌, ◌↔◌, ◌++◌, length, drop, replicate, decimal, codes, IsOk, OnOk, OnErr, MatchOption, Result, Ok, Some, ◌≢◌, slice_index};
 ghost use Rattle.std.specs.Option.{SomeIff};
 ghost use Rattle.std.specs.Str.Parse.{AllDigits, digits_value};
 ghost use Rattle.columns.specs.Spelling.{Means, spelled};
@@ -93,19 +93,33 @@ fn value_of(digits: &[u8]) -> Option<u64>
     Some(total)
 }
 
+// There are fewer columns than the number has digits.
+#[derive(Clone, Copy, PartialEq, Eq, Debug)]
+pub struct TooNarrow;
+
+impl fmt::Display for TooNarrow {
+    ghost output = { λ _. Some (codes "the number has more digits than there are columns") };
+
+    fn fmt<W: fmt::Write>(&self, f: &mut fmt::Formatter<W>) -> fmt::Result {
+        f.write_str("the number has more digits than there are columns")
+    }
+}
+
+impl Error for TooNarrow {}
+
 // Writes the number over all the columns, blanks before it. Where it does not fit, the columns stay as they were.
-pub fn write(number: u64, columns: &mut [u8]) -> bool
-    ensures fits { Decides result (length (decimal number) ≤ length columns.old) }
-    ensures spells { result ≡ true → columns.new ≡ spelled (length columns.old) number }
-    ensures reads { result ≡ true → Means columns.new (Ok number) }
-    ensures keeps { result ≡ false → columns.new ≡ columns.old }
+pub fn write(number: u64, columns: &mut [u8]) -> Result<(), TooNarrow>
+    ensures fits { IsOk result ↔ (length (decimal number) ≤ length columns.old) }
+    ensures spells { OnOk result (columns.new ≡ spelled (length columns.old) number) }
+    ensures reads { OnOk result (Means columns.new (Ok number)) }
+    ensures keeps { OnErr result (columns.new ≡ columns.old) }
 {
     if columns.len() < digit_count(number) {
-        return false;
+        return Err(TooNarrow);
     }
     let first = put_digits(number, columns);
     columns[..first].fill(BLANK);
-    true
+    Ok(())
 }
 
 // How many digits the number's decimal has.
@@ -171,14 +185,14 @@ mod tests {
     #[test]
     fn writes_over_all_columns(rt: HostRuntime) {
         let mut columns = *b"xxxxx";
-        assert!(rt; write(0, &mut columns));
+        assert_eq!(rt; write(0, &mut columns), Ok(()));
         assert_eq!(rt; columns, *b"    0");
-        assert!(rt; write(1203, &mut columns));
+        assert_eq!(rt; write(1203, &mut columns), Ok(()));
         assert_eq!(rt; columns, *b" 1203");
-        assert!(rt; write(98765, &mut columns));
+        assert_eq!(rt; write(98765, &mut columns), Ok(()));
         assert_eq!(rt; columns, *b"98765");
-        assert!(rt; !write(100_000, &mut columns));
+        assert_eq!(rt; write(100_000, &mut columns), Err(TooNarrow));
         assert_eq!(rt; columns, *b"98765");
-        assert!(rt; !write(0, &mut []));
+        assert_eq!(rt; write(0, &mut []), Err(TooNarrow));
     }
 }

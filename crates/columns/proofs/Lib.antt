@@ -1,4 +1,3 @@
 mod Readings
 pub mod Spelled
 mod Turns
-mod Writings

@@ -7,6 +7,7 @@ ghost use Rattle.std.specs.Str.Parse.{AllDigits, digits_value};
 ghost use Rattle.columns.specs.Spelling.{Means, spelled};
 ghost use Rattle.columns.specs.declared.FieldError.{FieldError};
 
+use itoa::Buffer;
 use std::error::Error;
 use std::fmt;
 
@@ -114,42 +115,13 @@ pub fn write(number: u64, columns: &mut [u8]) -> Result<(), TooNarrow>
     ensures reads { OnOk result (Means columns.new (Ok number)) }
     ensures keeps { OnErr result (columns.new ≡ columns.old) }
 {
-    if columns.len() < digit_count(number) {
-        return Err(TooNarrow);
-    }
-    let first = put_digits(number, columns);
-    columns[..first].fill(BLANK);
+    let mut buffer = Buffer::new();
+    let digits = buffer.format(number).as_bytes();
+    let blanks = columns.len().checked_sub(digits.len()).ok_or(TooNarrow)?;
+    let (before, last) = columns.split_at_mut(blanks);
+    before.fill(BLANK);
+    last.copy_from_slice(digits);
     Ok(())
-}
-
-// How many digits the number's decimal has.
-fn digit_count(number: u64) -> usize
-    ensures { result ≡ length (decimal number) }
-{
-    let mut count = 1;
-    let mut rest = number;
-    while rest >= BASE {
-        rest /= BASE;
-        count += 1;
-    }
-    count
-}
-
-// Writes the digits into the last columns, from the right, and says where the first stands.
-fn put_digits(number: u64, columns: &mut [u8]) -> usize
-    requires { length (decimal number) ≤ length columns.old }
-    ensures place { result ≡ length columns.old - length (decimal number) }
-    ensures digits { drop result columns.new ≡ decimal number }
-{
-    let mut at = columns.len() - 1;
-    let mut rest = number;
-    while rest >= BASE {
-        columns[at] = ZERO + (rest % BASE) as u8;
-        rest /= BASE;
-        at -= 1;
-    }
-    columns[at] = ZERO + rest as u8;
-    at
 }
 
 #[cfg(test)]

@@ -1,5 +1,5 @@
 -- What is read after the blanks is the decimal of a number just where the whole text spells that number.
-use Rattle.std.proofs.Common.{◌≡◌, ℕ, ◌-◌, ◌^◌, ◌<◌, ◌≤◌, List, [], ◌++◌, length, get_or, drop, replicate, Some, None, Result, Ok, Err, decimal, Option, sym, ap, ◌∙◌, subst, ⊎_elim, append-nil, add-zero, arith, length-append, length-drop, get_or-drop, MatchOption}
+use Rattle.std.proofs.Common.{◌≡◌, ℕ, zero, suc, ◌-◌, ◌^◌, ◌<◌, ◌≤◌, List, [], ◌∷◌, ◌++◌, length, get_or, drop, replicate, Some, None, Result, Ok, Err, decimal, Option, refl, sym, ap, ◌∙◌, subst, ⊎_elim, append-nil, add-zero, arith, length-append, length-drop, get_or-drop, MatchOption}
 use lib.ListN.{length-replicate}
 use Rattle.std.specs.Option.{SomeIff, ok_or}
 use Rattle.std.specs.Str.Parse.{AllDigits, digits_value}
@@ -12,8 +12,14 @@ use Rattle.columns.specs.declared.FieldError.TheVariants.{Blank, Unreadable}
 use Rattle.columns.specs.Spelling.{Means}
 use Rattle.columns.proofs.Spelled.{after_blanks_same, decimal_no_blank, means_one}
 
+-- a text whose first n bytes are blanks
+pub blanks_front : (text : List ℕ) (n : ℕ) → n ≤ length text → ((k : ℕ) → k < n → get_or text k 0 ≡ 32) → text ≡ replicate n 32 ++ drop n text
+blanks_front text zero within blank = refl
+blanks_front [] (suc n) within blank = absurd (omega arith)
+blanks_front (x ∷ xs) (suc n) within blank = λ i. blank 0 (omega arith) i ∷ blanks_front xs n (omega arith) (λ k h. blank (suc k) (omega arith)) i
+
 pub no_leading_zero : (ds : List ℕ) (n : ℕ) → n < 2 ^ 64 → ds ≡ decimal n → get_or ds 0 0 ≡ 48 → length ds ≡ 1
-no_leading_zero ds n small is zero =
+no_leading_zero ds n small is first =
     ⊎_elim
     (λ (some : 0 < n). absurd (omega (arith, first_decimal n some small, ap (λ l. get_or l 0 0) is)))
     (λ (none : n ≤ 0). ap length (is ∙ decimal_digit n (omega arith)))

@@ -57,12 +57,9 @@ fn blanks_before(text: &[u8]) -> usize
     ensures blank { text.now ≡ replicate result 32 ++ drop result text.now }
     ensures stops { slice_index text.now result ≢ 32 }
 {
-    for (i, byte) in text.iter().enumerate() {
-        if *byte != BLANK {
-            return i;
-        }
-    }
-    text.len()
+    text.iter()
+        .position(|byte| *byte != BLANK)
+        .unwrap_or(text.len())
 }
 
 // The number of which the digits are the decimal: a leading 0 stands only in the number 0.

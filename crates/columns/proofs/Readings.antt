@@ -1,12 +1,8 @@
 -- What is read after the blanks is the decimal of a number just where the whole text spells that number.
-use Rattle.std.proofs.Common.{◌≡◌, ℕ, zero, suc, ◌-◌, ◌^◌, ◌<◌, ◌≤◌, List, [], ◌∷◌, ◌++◌, length, get_or, drop, replicate, Some, None, Result, Ok, Err, decimal, Option, refl, sym, ap, ◌∙◌, subst, ⊎_elim, append-nil, add-zero, arith, length-append, length-drop, get_or-drop, MatchOption}
+use Rattle.std.proofs.Common.{◌≡◌, ℕ, zero, suc, ◌-◌, ◌^◌, ◌<◌, ◌≤◌, List, [], ◌∷◌, ◌++◌, length, get_or, drop, replicate, Some, None, Result, Ok, Err, decimal, Option, refl, sym, ap, ◌∙◌, append-nil, add-zero, arith, length-append, length-drop, get_or-drop, MatchOption}
 use lib.ListN.{length-replicate}
-use Rattle.std.specs.Option.{SomeIff, ok_or}
-use Rattle.std.specs.Str.Parse.{AllDigits, digits_value}
-use Rattle.std.proofs.lemmas.Fmt.{decimal_is_IsNumeral, decimal_digit, decimal-digits_value, first_decimal}
+use Rattle.std.specs.Option.{ok_or}
 use Rattle.std.proofs.lemmas.List.{drop_all}
-use Rattle.std.proofs.lemmas.Str.Parse.{numerals_by_value, tells_digits}
-use Rattle.std.proofs.lemmas.Bool.{cases_lt}
 use Rattle.columns.specs.declared.FieldError.{FieldError}
 use Rattle.columns.specs.declared.FieldError.TheVariants.{Blank, Unreadable}
 use Rattle.columns.specs.Spelling.{Means}
@@ -17,18 +13,6 @@ pub blanks_front : (text : List ℕ) (n : ℕ) → n ≤ length text → ((k : �
 blanks_front text zero within blank = refl
 blanks_front [] (suc n) within blank = absurd (omega arith)
 blanks_front (x ∷ xs) (suc n) within blank = λ i. blank 0 (omega arith) i ∷ blanks_front xs n (omega arith) (λ k h. blank (suc k) (omega arith)) i
-
-pub no_leading_zero : (ds : List ℕ) (n : ℕ) → n < 2 ^ 64 → ds ≡ decimal n → get_or ds 0 0 ≡ 48 → length ds ≡ 1
-no_leading_zero ds n small is first =
-    ⊎_elim
-    (λ (some : 0 < n). absurd (omega (arith, first_decimal n some small, ap (λ l. get_or l 0 0) is)))
-    (λ (none : n ≤ 0). ap length (is ∙ decimal_digit n (omega arith)))
-    (cases_lt 0 n)
-
--- the value of digits with no needless zero is the number that they are the decimal of
-pub decimal_by_value : (r : Option ℕ) (ds : List ℕ) → 0 < length ds → (get_or ds 0 0 ≡ 48 → length ds ≡ 1) → SomeIff r (AllDigits 10 ds × (digits_value 10 ds < 2 ^ 64)) (digits_value 10 ds) → MatchOption r ((n : ℕ) → n < 2 ^ 64 → ds ≡ decimal n → ⊥) (λ n. (n < 2 ^ 64) × (ds ≡ decimal n))
-decimal_by_value (Some x) ds some lead h = (omega (arith, h.0.1, h.1), sym (ap decimal h.1 ∙ decimal-digits_value (numerals_by_value _ tells_digits) ds h.0.0 some lead h.0.1))
-decimal_by_value None ds some lead h = λ n small is. h (subst (AllDigits 10) (sym is) (decimal_is_IsNumeral n small).0.1, omega (arith, ap (digits_value 10) is, (decimal_is_IsNumeral n small).1))
 
 -- r blanks, and then what is left of the text
 module _ (text : List ℕ) (r : ℕ) (front : text ≡ replicate r 32 ++ drop r text) where

@@ -1,4 +1,4 @@
-use Rattle.std.proofs.Common.{rules, arith}
+use Rattle.std.proofs.Common.{rules}
 use Rattle.columns.proofs.Readings.{blanks_front}
 use Rattle.columns.proofs.blanks_before.Goals as goal
 

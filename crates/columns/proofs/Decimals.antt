@@ -1,5 +1,5 @@
 -- Which bytes are the decimal of a number.
-use Rattle.std.proofs.Common.{◌≡◌, ℕ, ◌^◌, ◌<◌, ◌≤◌, List, length, get_or, Result, Ok, Err, decimal, sym, ap, ◌∙◌, subst, ⊎_elim, arith, MatchOption}
+use Rattle.std.proofs.Common.{◌≡◌, ℕ, ◌^◌, ◌<◌, ◌≤◌, List, length, get_or, Option, None, Result, Ok, Err, decimal, sym, ap, ◌∙◌, subst, ⊎_elim, arith, MatchOption}
 use Rattle.std.specs.Str.{IsUtf8}
 use Rattle.std.specs.Str.Parse.{ParsesUnsigned}
 use Rattle.std.specs.Result.{result_ok}
@@ -29,8 +29,8 @@ leads n small =
 pub no_number : (ds : List ℕ) → (Leads ds → ⊥) → (n : ℕ) → n < 2 ^ 64 → ds ≡ decimal n → ⊥
 no_number ds other n small is = other (subst Leads (sym is) (leads n small))
 
-pub no_text : (ds : List ℕ) → (IsUtf8 ds → ⊥) → (n : ℕ) → n < 2 ^ 64 → ds ≡ decimal n → ⊥
-no_text ds other n small is = other (subst IsUtf8 (sym is) (IsUtf8-from_ascii (decimal n) (IsAscii-decimal n small)))
+pub no_text : (ds : List ℕ) (found : Option ℕ) → found ≡ None → (IsUtf8 ds → ⊥) → MatchOption found ((n : ℕ) → n < 2 ^ 64 → ds ≡ decimal n → ⊥) (λ n. (n < 2 ^ 64) × (ds ≡ decimal n))
+no_text ds found none other = rw none (λ n small is. other (subst IsUtf8 (sym is) (IsUtf8-from_ascii (decimal n) (IsAscii-decimal n small))))
 
 pub by_parse : {E : Type 0} (ds : List ℕ) (r : Result ℕ E) → Leads ds → ParsesUnsigned 64 10 ds r → MatchOption (result_ok r) ((n : ℕ) → n < 2 ^ 64 → ds ≡ decimal n → ⊥) (λ n. (n < 2 ^ 64) × (ds ≡ decimal n))
 by_parse {E} ds (Err e) lead parses = λ n small is. let same = parse-decimal 64 n ds (Err e) small small is parses in cc

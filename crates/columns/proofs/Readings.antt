@@ -39,10 +39,10 @@ module _ (text : List ℕ) (r : ℕ) (front : text ≡ replicate r 32 ++ drop r 
             omega (arith, length-drop r text, ap length empty),
       )
 
-  -- what the reading of the bytes after the blanks gives
-  pub meaning : (get_or text r 0 ≡ 32 → ⊥) → r < length text → (found : Option ℕ) (ds : List ℕ) → MatchOption found ((n : ℕ) → n < 2 ^ 64 → ds ≡ decimal n → ⊥) (λ n. (n < 2 ^ 64) × (ds ≡ decimal n)) → ds ≡ drop r text → Means text (ok_or found Unreadable)
-  meaning stops more (Some n) ds is whole = number_if_decimal n ds is whole
-  meaning stops more None ds none whole = unreadable_if_neither stops more ds none whole
+-- what the reading of the bytes after the blanks gives
+pub meaning : (out : Result ℕ FieldError) (found : Option ℕ) → out ≡ ok_or found Unreadable → (text : List ℕ) (r : ℕ) → text ≡ replicate r 32 ++ drop r text → (get_or text r 0 ≡ 32 → ⊥) → r < length text → (ds : List ℕ) → MatchOption found ((n : ℕ) → n < 2 ^ 64 → ds ≡ decimal n → ⊥) (λ n. (n < 2 ^ 64) × (ds ≡ decimal n)) → ds ≡ drop r text → Means text out
+meaning out (Some n) gives text r front stops more ds is whole = rw gives (number_if_decimal text r front n ds is whole)
+meaning out None gives text r front stops more ds none whole = rw gives (unreadable_if_neither text r front stops more ds none whole)
 
 pub one_meaning : (text : List ℕ) (r : Result ℕ FieldError) → Means text r → record { means : Means text r; only : (f : Result ℕ FieldError) → Means text f → f ≡ r }
 one_meaning text r m = record { means = m; only = λ f p. means_one text f r p m }

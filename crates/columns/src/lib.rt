@@ -57,7 +57,7 @@ fn blanks_before(text: &[u8]) -> usize
 }
 
 // The number of which the digits are the decimal: a leading 0 stands only in the number 0.
-#[tactic(auto, using(crate::proofs::Decimals::no_number, crate::proofs::Decimals::by_parse))]
+#[tactic(auto, using(crate::proofs::Decimals::no_number, crate::proofs::Decimals::no_text, crate::proofs::Decimals::by_parse))]
 fn number(digits: &[u8]) -> Option<u64>
     ensures { MatchOption result ((n : ℕ) → n < 2 ^ 64 → digits.now ≢ decimal n) (λ n. (n < 2 ^ 64) × (digits.now ≡ decimal n)) }
 {

@@ -1,12 +1,12 @@
 -- Which bytes are the decimal of a number.
-use Rattle.std.proofs.Common.{◌≡◌, ℕ, ◌^◌, ◌<◌, ◌≤◌, List, length, get_or, Option, None, Result, Ok, Err, decimal, sym, ap, ◌∙◌, subst, ⊎_elim, arith, MatchOption}
+use Rattle.std.proofs.Common.{◌≡◌, ℕ, ◌^◌, ◌<◌, ◌≤◌, List, length, get_or, Option, None, Result, Ok, Err, decimal, sym, ap, ◌∙◌, subst, arith, MatchOption}
 use Rattle.std.specs.Str.{IsUtf8}
 use Rattle.std.specs.Str.Parse.{ParsesUnsigned}
 use Rattle.std.specs.Result.{result_ok}
-use Rattle.std.proofs.lemmas.Fmt.{IsAscii-decimal, decimal_nonempty, decimal_digit, decimal_is_IsNumeral, decimal-digits_value, first_decimal, parse-decimal}
+use Rattle.std.proofs.lemmas.Fmt.{IsAscii-decimal, decimal_nonempty, decimal_digit, decimal-digits_value, first_decimal, parse-decimal}
 use Rattle.std.proofs.lemmas.Str.{IsUtf8-from_ascii}
-use Rattle.std.proofs.lemmas.Str.Parse.{numerals_by_value, tells_digits, digit_at, parse_plain}
-use Rattle.std.proofs.lemmas.Bool.{cases_lt}
+use Rattle.std.proofs.lemmas.Str.Parse.{numerals_by_value, tells_digits, parse_plain}
+use Rattle.columns.proofs.Spelled.{digit_decimal}
 
 -- a first byte and a length as a decimal has them: a digit, and 0 only alone
 pub record Leads (ds : List ℕ) : Type 0 where
@@ -18,12 +18,12 @@ pub record Leads (ds : List ℕ) : Type 0 where
 leads : (n : ℕ) → n < 2 ^ 64 → Leads (decimal n)
 leads n small =
     let some = decimal_nonempty n small in
-    let digit = digit_at (decimal n) 0 (decimal_is_IsNumeral n small).0.1 some in
+    let digit = digit_decimal n 0 small some in
     record {
       some = some;
       least = omega arith;
       most = omega arith;
-      alone = λ first. ⊎_elim (λ (some : 0 < n). absurd (omega (arith, first_decimal n some small))) (λ (none : n ≤ 0). omega (arith, ap length (decimal_digit n (omega arith)))) (cases_lt 0 n);
+      alone = λ first. grind (arith, first_decimal n, ap length (decimal_digit 0 (omega arith)));
     }
 
 pub no_number : (ds : List ℕ) → (Leads ds → ⊥) → (n : ℕ) → n < 2 ^ 64 → ds ≡ decimal n → ⊥

@@ -2,7 +2,7 @@
 use Rattle.std.proofs.Common.{◌≡◌, ℕ, zero, suc, ◌-◌, ◌^◌, ◌<◌, ◌≤◌, List, [], ◌∷◌, ◌++◌, length, get_or, drop, replicate, Some, None, Result, Ok, Err, decimal, Option, refl, sym, ap, ◌∙◌, append-nil, add-zero, arith, length-append, length-drop, get_or-drop, MatchOption}
 use lib.ListN.{length-replicate}
 use Rattle.std.specs.Option.{ok_or}
-use Rattle.std.proofs.lemmas.List.{drop_all}
+use Rattle.std.proofs.lemmas.Grind.{common_steps}
 use Rattle.columns.specs.declared.FieldError.{FieldError}
 use Rattle.columns.specs.declared.FieldError.TheVariants.{Blank, Unreadable}
 use Rattle.columns.specs.Spelling.{Means}
@@ -17,11 +17,7 @@ blanks_front (x ∷ xs) (suc n) within blank = λ i. blank 0 (omega arith) i ∷
 -- r blanks, and then what is left of the text
 module _ (text : List ℕ) (r : ℕ) (front : text ≡ replicate r 32 ++ drop r text) where
   pub blank_if_all : r ≡ length text → Means text (Err Blank)
-  blank_if_all all =
-      front
-      ∙ ap (λ l. replicate r 32 ++ l) (drop_all r text (omega arith))
-      ∙ append-nil (replicate r 32)
-      ∙ ap (λ n. replicate n 32) all
+  blank_if_all all = grind (arith, common_steps)
 
   pub number_if_decimal : (n : ℕ) (ds : List ℕ) → (n < 2 ^ 64) × (ds ≡ decimal n) → ds ≡ drop r text → Means text (Ok n)
   number_if_decimal n ds decimal-of whole =

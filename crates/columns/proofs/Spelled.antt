@@ -38,10 +38,6 @@ length-spelled_fit w n h = simp (length-append, length-replicate) (omega arith)
 pub length-spelled : (w n : ℕ) → n < 10 ^ w → 0 < w → n < 2 ^ 64 → length (spelled w n) ≡ w
 length-spelled w n fits some small = length-spelled_fit w n (length-decimal-le w n some fits small)
 
--- what is spelled where it fits has that meaning
-pub means_spelled : (w n : ℕ) → n < 2 ^ 64 → length (decimal n) ≤ w → Means (spelled w n) (Ok n)
-means_spelled w n small fits = (small, ap (λ k. spelled k n) (sym (length-spelled_fit w n fits)))
-
 pub spelled_no_newline : (w n : ℕ) → n < 2 ^ 64 → AllByRecursion (λ b. b ≡ 10 → ⊥) (spelled w n)
 spelled_no_newline w n small =
     All-append (λ b. b ≡ 10 → ⊥) (replicate (w - length (decimal n)) 32) (decimal n)

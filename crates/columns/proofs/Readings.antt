@@ -16,14 +16,9 @@ blanks_front (x ∷ xs) (suc n) within blank = λ i. blank 0 (omega arith) i ∷
 
 -- r blanks, and then what is left of the text
 module _ (text : List ℕ) (r : ℕ) (front : text ≡ replicate r 32 ++ drop r text) where
-  pub blank_if_all : r ≡ length text → Means text (Err Blank)
-  blank_if_all all = grind (arith, common_steps)
-
   pub number_if_decimal : (n : ℕ) (ds : List ℕ) → (n < 2 ^ 64) × (ds ≡ decimal n) → ds ≡ drop r text → Means text (Ok n)
   number_if_decimal n ds decimal-of whole =
-      let is = sym whole ∙ decimal-of.1 in
-      let count : r ≡ length text - length (decimal n) = omega (arith, ap length front, length-append (replicate r 32) (drop r text), length-replicate {A = ℕ} r 32, ap length is) in
-      (decimal-of.0, front ∙ (λ i. replicate (count i) 32 ++ is i))
+      (decimal-of.0, let count : r ≡ length text - length (decimal n) = grind (arith, common_steps) in grind (arith, common_steps))
 
   -- where the byte after the blanks is no blank, the text is neither a spelling nor blank
   pub unreadable_if_neither : (get_or text r 0 ≡ 32 → ⊥) → r < length text → (ds : List ℕ) → ((n : ℕ) → n < 2 ^ 64 → ds ≡ decimal n → ⊥) → ds ≡ drop r text → Means text (Err Unreadable)

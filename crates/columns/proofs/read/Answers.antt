@@ -1,10 +1,11 @@
 use Rattle.std.proofs.Common.{arith, rules}
 use Rattle.std.proofs.lemmas.List.{take_rest}
-use Rattle.columns.proofs.Readings.{blank_if_all, meaning, one_meaning}
+use Rattle.std.proofs.lemmas.Grind.{common_steps}
+use Rattle.columns.proofs.Readings.{meaning, one_meaning}
 use Rattle.columns.proofs.read.Goals as goal
 
 pub returns-then-blanks-text : goal.returns-then-blanks-text
-returns-then-blanks-text c = one_meaning _ _ (search (rules, blank_if_all))
+returns-then-blanks-text c = one_meaning _ _ (grind (arith, common_steps))
 
 pub returns : goal.returns
 returns c =

@@ -27,11 +27,6 @@ decimal_no_blank n small e = omega (arith, digit_decimal n 0 small (decimal_none
 pub spelled_injective : (w m n : ℕ) → m < 2 ^ 64 → n < 2 ^ 64 → spelled w m ≡ spelled w n → m ≡ n
 spelled_injective w m n p q e = decimal_injective m n p q (after_blanks_same _ _ (decimal m) (decimal n) (decimal_no_blank m p) (decimal_no_blank n q) e)
 
-pub spelled_not_blank : (w n k : ℕ) → n < 2 ^ 64 → spelled w n ≡ replicate k 32 → ⊥
-spelled_not_blank w n k small e =
-    let none : decimal n ≡ [] = after_blanks_same _ k (decimal n) [] (decimal_no_blank n small) (λ z. omega arith) (e ∙ sym (append-nil (replicate k 32))) in
-    omega (arith, decimal_nonempty n small, ap length none)
-
 pub length-spelled_fit : (w n : ℕ) → length (decimal n) ≤ w → length (spelled w n) ≡ w
 length-spelled_fit w n h = simp (length-append, length-replicate) (omega arith)
 
@@ -45,7 +40,9 @@ spelled_no_newline w n small =
     (All-from_get_or (λ b. b ≡ 10 → ⊥) _ 0 (λ i h e. omega (arith, digit_decimal n i small h)))
 
 spelled_or_blank : (text : List ℕ) (n : ℕ) → Means text (Ok n) → Means text (Err Blank) → ⊥
-spelled_or_blank text n p b = spelled_not_blank (length text) n (length text) p.0 (sym p.1 ∙ b)
+spelled_or_blank text n p b =
+    let none : decimal n ≡ [] = after_blanks_same _ (length text) (decimal n) [] (decimal_no_blank n p.0) (λ z. omega arith) (sym p.1 ∙ b ∙ sym (append-nil _)) in
+    omega (arith, decimal_nonempty n p.0, ap length none)
 
 -- a text has one meaning
 pub means_one : (text : List ℕ) (f g : Result ℕ FieldError) → Means text f → Means text g → f ≡ g

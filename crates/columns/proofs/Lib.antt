@@ -1,4 +1,3 @@
+mod Decimals
 mod Readings
 pub mod Spelled
-mod Turns
-mod Writings

@@ -1,53 +1,30 @@
 -- What is read after the blanks is the decimal of a number just where the whole text spells that number.
-use Rattle.std.proofs.Common.{◌≡◌, ℕ, ◌-◌, ◌^◌, ◌<◌, ◌≤◌, List, [], ◌++◌, length, get_or, drop, replicate, Some, None, decimal, Option, sym, ap, ◌∙◌, subst, ⊎_elim, append-nil, add-zero, arith, length-append, length-drop, get_or-drop, MatchOption}
-use lib.ListN.{length-replicate}
-use Rattle.std.specs.Option.{SomeIff}
-use Rattle.std.specs.Str.Parse.{AllDigits, digits_value}
-use Rattle.std.proofs.lemmas.Fmt.{decimal_is_IsNumeral, decimal_digit, decimal-digits_value, first_decimal}
-use Rattle.std.proofs.lemmas.List.{drop_all}
-use Rattle.std.proofs.lemmas.Str.Parse.{numerals_by_value, tells_digits}
-use Rattle.std.proofs.lemmas.Bool.{cases_lt}
-use Rattle.columns.specs.declared.Field.{Field}
-use Rattle.columns.specs.declared.Field.TheVariants.{Number, Blank, Unreadable}
+use Rattle.std.proofs.Common.{◌≡◌, ℕ, zero, suc, ◌-◌, ◌^◌, ◌<◌, ◌≤◌, List, [], ◌∷◌, ◌++◌, length, get_or, drop, replicate, Some, None, Result, decimal, Option, refl, sym, ap, ◌∙◌, add-zero, arith, get_or-drop, MatchOption}
+use Rattle.std.specs.Option.{ok_or}
+use Rattle.std.proofs.lemmas.List.{get_or-replicate}
+use Rattle.std.proofs.lemmas.Grind.{common_steps}
+use Rattle.columns.specs.declared.FieldError.{FieldError}
+use Rattle.columns.specs.declared.FieldError.TheVariants.{Unreadable}
 use Rattle.columns.specs.Spelling.{Means}
 use Rattle.columns.proofs.Spelled.{after_blanks_same, decimal_no_blank, means_one}
 
-pub no_leading_zero : (ds : List ℕ) (n : ℕ) → n < 2 ^ 64 → ds ≡ decimal n → get_or ds 0 0 ≡ 48 → length ds ≡ 1
-no_leading_zero ds n small is zero =
-    ⊎_elim
-    (λ (some : 0 < n). absurd (omega (arith, first_decimal n some small, ap (λ l. get_or l 0 0) is)))
-    (λ (none : n ≤ 0). ap length (is ∙ decimal_digit n (omega arith)))
-    (cases_lt 0 n)
+-- a text whose first n bytes are blanks
+pub blanks_front : (text : List ℕ) (n : ℕ) → n ≤ length text → ((k : ℕ) → k < n → get_or text k 0 ≡ 32) → text ≡ replicate n 32 ++ drop n text
+blanks_front text zero within blank = refl
+blanks_front [] (suc n) within blank = absurd (omega arith)
+blanks_front (x ∷ xs) (suc n) within blank = λ i. blank 0 (omega arith) i ∷ blanks_front xs n (omega arith) (λ k h. blank (suc k) (omega arith)) i
 
--- the value of digits with no needless zero is the number that they are the decimal of
-pub decimal_by_value : (r : Option ℕ) (ds : List ℕ) → 0 < length ds → (get_or ds 0 0 ≡ 48 → length ds ≡ 1) → SomeIff r (AllDigits 10 ds × (digits_value 10 ds < 2 ^ 64)) (digits_value 10 ds) → MatchOption r ((n : ℕ) → n < 2 ^ 64 → ds ≡ decimal n → ⊥) (λ n. (n < 2 ^ 64) × (ds ≡ decimal n))
-decimal_by_value (Some x) ds some lead h = (omega (arith, h.0.1, h.1), sym (ap decimal h.1 ∙ decimal-digits_value (numerals_by_value _ tells_digits) ds h.0.0 some lead h.0.1))
-decimal_by_value None ds some lead h = λ n small is. h (subst (AllDigits 10) (sym is) (decimal_is_IsNumeral n small).0.1, omega (arith, ap (digits_value 10) is, (decimal_is_IsNumeral n small).1))
+-- what the reading of the bytes after the blanks gives
+pub meaning : (out : Result ℕ FieldError) (found : Option ℕ) → out ≡ ok_or found Unreadable → (text : List ℕ) (r : ℕ) → text ≡ replicate r 32 ++ drop r text → (get_or text r 0 ≡ 32 → ⊥) → r < length text → (ds : List ℕ) → MatchOption found ((n : ℕ) → n < 2 ^ 64 → ds ≡ decimal n → ⊥) (λ n. (n < 2 ^ 64) × (ds ≡ decimal n)) → ds ≡ drop r text → Means text out
+meaning out (Some n) gives text r front stops more ds is whole =
+    let count : r ≡ length text - length (decimal n) = grind (arith, common_steps) in
+    rw gives (is.0, grind (arith, common_steps))
+meaning out None gives text r front stops more ds none whole =
+    let stop : get_or (drop r text) 0 0 ≡ 32 → ⊥ = rw (get_or-drop, add-zero) stops in
+    rw gives (
+      λ n small is. none n small (whole ∙ after_blanks_same r _ (drop r text) (decimal n) stop (decimal_no_blank n small) (sym front ∙ is)),
+      λ b. stops (ap (λ l. get_or l r 0) b ∙ get_or-replicate (length text) r 32 0 more),
+    )
 
--- r blanks, and then what is left of the text
-module _ (text : List ℕ) (r : ℕ) (front : text ≡ replicate r 32 ++ drop r text) where
-  pub blank_if_all : r ≡ length text → Means text Blank
-  blank_if_all all =
-      front
-      ∙ ap (λ l. replicate r 32 ++ l) (drop_all r text (omega arith))
-      ∙ append-nil (replicate r 32)
-      ∙ ap (λ n. replicate n 32) all
-
-  pub number_if_decimal : (n : ℕ) (ds : List ℕ) → (n < 2 ^ 64) × (ds ≡ decimal n) → ds ≡ drop r text → Means text (Number n)
-  number_if_decimal n ds decimal-of whole =
-      let is = sym whole ∙ decimal-of.1 in
-      let count : r ≡ length text - length (decimal n) = omega (arith, ap length front, length-append (replicate r 32) (drop r text), length-replicate {A = ℕ} r 32, ap length is) in
-      (decimal-of.0, front ∙ (λ i. replicate (count i) 32 ++ is i))
-
-  -- where the byte after the blanks is no blank, the text is neither a spelling nor blank
-  pub unreadable_if_neither : (get_or text r 0 ≡ 32 → ⊥) → r < length text → (ds : List ℕ) → ((n : ℕ) → n < 2 ^ 64 → ds ≡ decimal n → ⊥) → ds ≡ drop r text → Means text Unreadable
-  unreadable_if_neither stops more ds none whole =
-      let stop : get_or (drop r text) 0 0 ≡ 32 → ⊥ = rw (get_or-drop, add-zero) stops in (
-        λ n small is. none n small (whole ∙ after_blanks_same r _ (drop r text) (decimal n) stop (decimal_no_blank n small) (sym front ∙ is)),
-        λ b.
-            let empty : drop r text ≡ [] = after_blanks_same r (length text) (drop r text) [] stop (λ z. omega arith) (sym front ∙ b ∙ sym (append-nil _)) in
-            omega (arith, length-drop r text, ap length empty),
-      )
-
-pub one_meaning : (text : List ℕ) (r : Field) → Means text r → record { means : Means text r; only : (f : Field) → Means text f → f ≡ r }
+pub one_meaning : (text : List ℕ) (r : Result ℕ FieldError) → Means text r → record { means : Means text r; only : (f : Result ℕ FieldError) → Means text f → f ≡ r }
 one_meaning text r m = record { means = m; only = λ f p. means_one text f r p m }

@@ -1,5 +1,5 @@
 -- Spellings in columns: how long they are, what bytes they have, and that no two numbers share one.
-use Rattle.std.proofs.Common.{◌≡◌, ℕ, zero, suc, ◌-◌, ◌^◌, ◌<◌, ◌≤◌, List, [], ◌++◌, length, get_or, drop, replicate, decimal, sym, refl, ap, ◌∙◌, append-nil, arith, length-append}
+use Rattle.std.proofs.Common.{◌≡◌, ℕ, zero, suc, ◌-◌, ◌^◌, ◌<◌, ◌≤◌, List, [], ◌++◌, length, get_or, drop, replicate, decimal, Result, Ok, Err, sym, refl, ap, ◌∙◌, append-nil, arith, length-append}
 use lib.ListN.{length-replicate}
 use Rattle.std.specs.Int.{IsInRange}
 use Rattle.std.specs.List.{AllByRecursion}
@@ -8,8 +8,8 @@ use Rattle.std.proofs.lemmas.Str.Parse.{digit_at}
 use Rattle.std.proofs.ByRecursion.{All-append, All-from_get_or}
 use Rattle.std.proofs.lemmas.List.{get_or-replicate}
 use Rattle.columns.specs.Spelling.{spelled, Means}
-use Rattle.columns.specs.declared.Field.{Field}
-use Rattle.columns.specs.declared.Field.TheVariants.{Number, Blank, Unreadable}
+use Rattle.columns.specs.declared.FieldError.{FieldError}
+use Rattle.columns.specs.declared.FieldError.TheVariants.{Blank, Unreadable}
 
 -- the bytes after the blanks do not depend on how many blanks there are said to be
 pub after_blanks_same : (j k : ℕ) (xs ys : List ℕ) → (get_or xs 0 0 ≡ 32 → ⊥) → (get_or ys 0 0 ≡ 32 → ⊥) → replicate j 32 ++ xs ≡ replicate k 32 ++ ys → xs ≡ ys
@@ -27,20 +27,11 @@ decimal_no_blank n small e = omega (arith, digit_decimal n 0 small (decimal_none
 pub spelled_injective : (w m n : ℕ) → m < 2 ^ 64 → n < 2 ^ 64 → spelled w m ≡ spelled w n → m ≡ n
 spelled_injective w m n p q e = decimal_injective m n p q (after_blanks_same _ _ (decimal m) (decimal n) (decimal_no_blank m p) (decimal_no_blank n q) e)
 
-pub spelled_not_blank : (w n k : ℕ) → n < 2 ^ 64 → spelled w n ≡ replicate k 32 → ⊥
-spelled_not_blank w n k small e =
-    let none : decimal n ≡ [] = after_blanks_same _ k (decimal n) [] (decimal_no_blank n small) (λ z. omega arith) (e ∙ sym (append-nil (replicate k 32))) in
-    omega (arith, decimal_nonempty n small, ap length none)
-
 pub length-spelled_fit : (w n : ℕ) → length (decimal n) ≤ w → length (spelled w n) ≡ w
 length-spelled_fit w n h = simp (length-append, length-replicate) (omega arith)
 
 pub length-spelled : (w n : ℕ) → n < 10 ^ w → 0 < w → n < 2 ^ 64 → length (spelled w n) ≡ w
 length-spelled w n fits some small = length-spelled_fit w n (length-decimal-le w n some fits small)
-
--- what is spelled where it fits has that meaning
-pub means_spelled : (w n : ℕ) → n < 2 ^ 64 → length (decimal n) ≤ w → Means (spelled w n) (Number n)
-means_spelled w n small fits = (small, ap (λ k. spelled k n) (sym (length-spelled_fit w n fits)))
 
 pub spelled_no_newline : (w n : ℕ) → n < 2 ^ 64 → AllByRecursion (λ b. b ≡ 10 → ⊥) (spelled w n)
 spelled_no_newline w n small =
@@ -48,17 +39,19 @@ spelled_no_newline w n small =
     (All-from_get_or (λ b. b ≡ 10 → ⊥) _ 0 (λ i h e. omega (arith, get_or-replicate {A = ℕ} (w - length (decimal n)) i 32 0 (simp length-replicate at h))))
     (All-from_get_or (λ b. b ≡ 10 → ⊥) _ 0 (λ i h e. omega (arith, digit_decimal n i small h)))
 
-spelled_or_blank : (text : List ℕ) (n : ℕ) → Means text (Number n) → Means text Blank → ⊥
-spelled_or_blank text n p b = spelled_not_blank (length text) n (length text) p.0 (sym p.1 ∙ b)
+spelled_or_blank : (text : List ℕ) (n : ℕ) → Means text (Ok n) → Means text (Err Blank) → ⊥
+spelled_or_blank text n p b =
+    let none : decimal n ≡ [] = after_blanks_same _ (length text) (decimal n) [] (decimal_no_blank n p.0) (λ z. omega arith) (sym p.1 ∙ b ∙ sym (append-nil _)) in
+    omega (arith, decimal_nonempty n p.0, ap length none)
 
 -- a text has one meaning
-pub means_one : (text : List ℕ) (f g : Field) → Means text f → Means text g → f ≡ g
-means_one text (Number m) (Number n) p q = ap Number (spelled_injective (length text) m n p.0 q.0 (sym p.1 ∙ q.1))
-means_one text (Number m) Blank p q = absurd (spelled_or_blank text m p q)
-means_one text (Number m) Unreadable p q = absurd (q.0 m p.0 p.1)
-means_one text Blank (Number n) p q = absurd (spelled_or_blank text n q p)
-means_one text Blank Blank p q = refl
-means_one text Blank Unreadable p q = absurd (q.1 p)
-means_one text Unreadable (Number n) p q = absurd (p.0 n q.0 q.1)
-means_one text Unreadable Blank p q = absurd (p.1 q)
-means_one text Unreadable Unreadable p q = refl
+pub means_one : (text : List ℕ) (f g : Result ℕ FieldError) → Means text f → Means text g → f ≡ g
+means_one text (Ok m) (Ok n) p q = ap Ok (spelled_injective (length text) m n p.0 q.0 (sym p.1 ∙ q.1))
+means_one text (Ok m) (Err Blank) p q = absurd (spelled_or_blank text m p q)
+means_one text (Ok m) (Err Unreadable) p q = absurd (q.0 m p.0 p.1)
+means_one text (Err Blank) (Ok n) p q = absurd (spelled_or_blank text n q p)
+means_one text (Err Blank) (Err Blank) p q = refl
+means_one text (Err Blank) (Err Unreadable) p q = absurd (q.1 p)
+means_one text (Err Unreadable) (Ok n) p q = absurd (p.0 n q.0 q.1)
+means_one text (Err Unreadable) (Err Blank) p q = absurd (p.1 q)
+means_one text (Err Unreadable) (Err Unreadable) p q = refl

@@ -1,40 +1,48 @@
 // Numbers in columns: a field of a record, right-justified after blanks.
 #![tactic(auto)]
 
-ghost use Rattle.std.specs.Prelude.{◌≡◌, ℕ, ◌-◌, ◌^◌, ◌<◌, ◌≤◌, true, false, ◌++◌, length, drop, replicate, decimal, Decides, MatchOption, ◌≢◌, slice_index};
-ghost use Rattle.std.specs.Option.{SomeIff};
-ghost use Rattle.std.specs.Str.Parse.{AllDigits, digits_value};
+ghost use Rattle.std.specs.Prelude.{◌≡◌, ℕ, ◌-◌, ◌^◌, ◌<◌, ◌≤◌, ◌↔◌, ◌++◌, length, drop, replicate, decimal, codes, IsOk, OnOk, OnErr, MatchOption, Result, Ok, Some, ◌≢◌, slice_index};
 ghost use Rattle.columns.specs.Spelling.{Means, spelled};
+ghost use Rattle.columns.specs.declared.FieldError.{FieldError};
+
+use itoa::Buffer;
+use std::error::Error;
+use std::fmt;
 
 const BLANK: u8 = b' ';
 
-const ZERO: u8 = b'0';
-
-const BASE: u64 = 10;
-
-// What stands in the columns of a number field.
+// Why columns are read as no number: they are all blank, or hold something else than one number after blanks.
 #[derive(Clone, Copy, PartialEq, Eq, Debug)]
-pub enum Field {
-    Number(u64),
+pub enum FieldError {
     Blank,
     Unreadable,
 }
 
-impl Field {
-    // The number whose decimal ends in the last column, after nothing but blanks.
-    pub fn read(text: &[u8]) -> Field
-        ensures means { Means text.now result }
-        ensures only { (f : Field) → Means text.now f → f ≡ result }
-    {
-        let blanks = blanks_before(text);
-        if blanks == text.len() {
-            return Field::Blank;
-        }
-        match number(&text[blanks..]) {
-            Some(n) => Field::Number(n),
-            None => Field::Unreadable,
-        }
+impl fmt::Display for FieldError {
+    ghost use Rattle.columns.specs.Messages.{message};
+
+    ghost output = { λ error. Some (message error) };
+
+    fn fmt<W: fmt::Write>(&self, f: &mut fmt::Formatter<W>) -> fmt::Result {
+        f.write_str(match self {
+            FieldError::Blank => "the columns are blank",
+            FieldError::Unreadable => "the columns hold no number",
+        })
     }
+}
+
+impl Error for FieldError {}
+
+// The number whose decimal ends in the last column, after nothing but blanks.
+pub fn read(text: &[u8]) -> Result<u64, FieldError>
+    ensures means { Means text.now result }
+    ensures only { (f : Result ℕ FieldError) → Means text.now f → f ≡ result }
+{
+    let blanks = blanks_before(text);
+    if blanks == text.len() {
+        return Err(FieldError::Blank);
+    }
+    number(&text[blanks..]).ok_or(FieldError::Unreadable)
 }
 
 // How many blanks the text begins with.
@@ -43,86 +51,50 @@ fn blanks_before(text: &[u8]) -> usize
     ensures blank { text.now ≡ replicate result 32 ++ drop result text.now }
     ensures stops { slice_index text.now result ≢ 32 }
 {
-    for (i, byte) in text.iter().enumerate() {
-        if *byte != BLANK {
-            return i;
-        }
-    }
-    text.len()
+    text.iter()
+        .position(|byte| *byte != BLANK)
+        .unwrap_or(text.len())
 }
 
 // The number of which the digits are the decimal: a leading 0 stands only in the number 0.
+#[tactic(auto, using(crate::proofs::Decimals::no_number, crate::proofs::Decimals::no_text, crate::proofs::Decimals::by_parse))]
 fn number(digits: &[u8]) -> Option<u64>
     ensures { MatchOption result ((n : ℕ) → n < 2 ^ 64 → digits.now ≢ decimal n) (λ n. (n < 2 ^ 64) × (digits.now ≡ decimal n)) }
 {
-    if digits.is_empty() {
-        return None;
+    match digits {
+        [b'0'] | [b'1'..=b'9', ..] => str::from_utf8(digits).ok()?.parse().ok(),
+        _ => None,
     }
-    let first = digits[0];
-    if first == ZERO && digits.len() > 1 {
-        return None;
-    }
-    value_of(digits)
 }
 
-// The value of the digits, or nothing where a byte is no digit or the value does not fit.
-fn value_of(digits: &[u8]) -> Option<u64>
-    ensures { SomeIff result (AllDigits 10 digits.now × (digits_value 10 digits.now < 2 ^ 64)) (digits_value 10 digits.now) }
-{
-    let mut total: u64 = 0;
-    for digit in digits {
-        if !digit.is_ascii_digit() {
-            return None;
-        }
-        let shifted = total.checked_mul(BASE)?;
-        total = shifted.checked_add(u64::from(*digit - ZERO))?;
+// There are fewer columns than the number has digits.
+#[derive(Clone, Copy, PartialEq, Eq, Debug)]
+pub struct TooNarrow;
+
+impl fmt::Display for TooNarrow {
+    ghost output = { λ _. Some (codes "the number has more digits than there are columns") };
+
+    fn fmt<W: fmt::Write>(&self, f: &mut fmt::Formatter<W>) -> fmt::Result {
+        f.write_str("the number has more digits than there are columns")
     }
-    Some(total)
 }
+
+impl Error for TooNarrow {}
 
 // Writes the number over all the columns, blanks before it. Where it does not fit, the columns stay as they were.
-pub fn write(number: u64, columns: &mut [u8]) -> bool
-    ensures fits { Decides result (length (decimal number) ≤ length columns.old) }
-    ensures spells { result ≡ true → columns.new ≡ spelled (length columns.old) number }
-    ensures reads { result ≡ true → Means columns.new (Field.Number number) }
-    ensures keeps { result ≡ false → columns.new ≡ columns.old }
+pub fn write(number: u64, columns: &mut [u8]) -> Result<(), TooNarrow>
+    ensures fits { IsOk result ↔ (length (decimal number) ≤ length columns.old) }
+    ensures spells { OnOk result (columns.new ≡ spelled (length columns.old) number) }
+    ensures reads { OnOk result (Means columns.new (Ok number)) }
+    ensures keeps { OnErr result (columns.new ≡ columns.old) }
 {
-    if columns.len() < digit_count(number) {
-        return false;
-    }
-    let first = put_digits(number, columns);
-    columns[..first].fill(BLANK);
-    true
-}
-
-// How many digits the number's decimal has.
-fn digit_count(number: u64) -> usize
-    ensures { result ≡ length (decimal number) }
-{
-    let mut count = 1;
-    let mut rest = number;
-    while rest >= BASE {
-        rest /= BASE;
-        count += 1;
-    }
-    count
-}
-
-// Writes the digits into the last columns, from the right, and says where the first stands.
-fn put_digits(number: u64, columns: &mut [u8]) -> usize
-    requires { length (decimal number) ≤ length columns.old }
-    ensures place { result ≡ length columns.old - length (decimal number) }
-    ensures digits { drop result columns.new ≡ decimal number }
-{
-    let mut at = columns.len() - 1;
-    let mut rest = number;
-    while rest >= BASE {
-        columns[at] = ZERO + (rest % BASE) as u8;
-        rest /= BASE;
-        at -= 1;
-    }
-    columns[at] = ZERO + rest as u8;
-    at
+    let mut buffer = Buffer::new();
+    let digits = buffer.format(number).as_bytes();
+    let blanks = columns.len().checked_sub(digits.len()).ok_or(TooNarrow)?;
+    let (before, last) = columns.split_at_mut(blanks);
+    before.fill(BLANK);
+    last.copy_from_slice(digits);
+    Ok(())
 }
 
 #[cfg(test)]
@@ -131,44 +103,41 @@ mod tests {
 
     #[test]
     fn reads_each_kind_of_field(rt: HostRuntime) {
-        let fields: [(&[u8], Field); 17] = [
-            (b"   1", Field::Number(1)),
-            (b"   0", Field::Number(0)),
-            (b"1203", Field::Number(1203)),
-            (b"  18446744073709551615", Field::Number(u64::MAX)),
-            (
-                b"10000000000000000000",
-                Field::Number(10_000_000_000_000_000_000),
-            ),
-            (b"    ", Field::Blank),
-            (b"", Field::Blank),
-            (b"  18446744073709551616", Field::Unreadable),
-            (b"99999999999999999999", Field::Unreadable),
-            (b"  01", Field::Unreadable),
-            (b"  1 ", Field::Unreadable),
-            (b"1 23", Field::Unreadable),
-            (b"-  1", Field::Unreadable),
-            (b"+  1", Field::Unreadable),
-            (b"  1\r", Field::Unreadable),
-            (b"  1\0", Field::Unreadable),
-            (b"\xff  1", Field::Unreadable),
+        let fields: [(&[u8], Result<u64, FieldError>); 17] = [
+            (b"   1", Ok(1)),
+            (b"   0", Ok(0)),
+            (b"1203", Ok(1203)),
+            (b"  18446744073709551615", Ok(u64::MAX)),
+            (b"10000000000000000000", Ok(10_000_000_000_000_000_000)),
+            (b"    ", Err(FieldError::Blank)),
+            (b"", Err(FieldError::Blank)),
+            (b"  18446744073709551616", Err(FieldError::Unreadable)),
+            (b"99999999999999999999", Err(FieldError::Unreadable)),
+            (b"  01", Err(FieldError::Unreadable)),
+            (b"  1 ", Err(FieldError::Unreadable)),
+            (b"1 23", Err(FieldError::Unreadable)),
+            (b"-  1", Err(FieldError::Unreadable)),
+            (b"+  1", Err(FieldError::Unreadable)),
+            (b"  1\r", Err(FieldError::Unreadable)),
+            (b"  1\0", Err(FieldError::Unreadable)),
+            (b"\xff  1", Err(FieldError::Unreadable)),
         ];
         for (text, field) in fields {
-            assert_eq!(rt; Field::read(text), field);
+            assert_eq!(rt; read(text), field);
         }
     }
 
     #[test]
     fn writes_over_all_columns(rt: HostRuntime) {
         let mut columns = *b"xxxxx";
-        assert!(rt; write(0, &mut columns));
+        assert_eq!(rt; write(0, &mut columns), Ok(()));
         assert_eq!(rt; columns, *b"    0");
-        assert!(rt; write(1203, &mut columns));
+        assert_eq!(rt; write(1203, &mut columns), Ok(()));
         assert_eq!(rt; columns, *b" 1203");
-        assert!(rt; write(98765, &mut columns));
+        assert_eq!(rt; write(98765, &mut columns), Ok(()));
         assert_eq!(rt; columns, *b"98765");
-        assert!(rt; !write(100_000, &mut columns));
+        assert_eq!(rt; write(100_000, &mut columns), Err(TooNarrow));
         assert_eq!(rt; columns, *b"98765");
-        assert!(rt; !write(0, &mut []));
+        assert_eq!(rt; write(0, &mut []), Err(TooNarrow));
     }
 }

@@ -1,8 +1,10 @@
 -- The row of a fault is written field by field over a row of blanks.
-use Rattle.std.proofs.Common.{◌≡◌, ℕ, ◌≤◌, Bool, true, false, cond, leb, List, [], ◌∷◌, ◌++◌, length, take, drop, set, replicate, decimal, Decides, sym, refl, ap, ◌∙◌, subst, append_assoc, arith}
+use Rattle.std.proofs.Common.{◌≡◌, ℕ, ◌≤◌, Bool, true, false, cond, leb, ◌↔◌, Result, Ok, Err, List, [], ◌∷◌, ◌++◌, length, take, drop, set, replicate, decimal, sym, refl, ap, ◌∙◌, append_assoc, arith}
 use lib.ListN.{length-replicate}
 use Rattle.std.proofs.lemmas.List.{take_at, drop_at, set_at, length-append}
-use Rattle.std.proofs.lemmas.Bool.{leb-true, le-leb, cond-true, cond-false, false≢true}
+use Rattle.std.specs.Result.{IsOk, OnOk, OnErr}
+use Rattle.std.proofs.lemmas.Bool.Decides.{nat_tests}
+use Rattle.std.proofs.lemmas.Bool.{leb-true, le-leb, cond-true, cond-false}
 use Rattle.columns.specs.Spelling.{spelled}
 use Rattle.columns.proofs.Spelled.{length-spelled_fit}
 use Rattle.deck.specs.Faults.{in_columns}
@@ -19,20 +21,14 @@ part_at : (front old back : List ℕ) (n k : ℕ) → length front ≡ n → len
 part_at front old back n k before long = ap (take k) (drop_at front (old ++ back) n before) ∙ take_at old back k long
 
 -- what is written in columns that were blank
-pub in_columns_is : (w n : ℕ) (r : Bool) (old new : List ℕ) → Decides r (length (decimal n) ≤ length old) → (r ≡ true → new ≡ spelled (length old) n) → (r ≡ false → new ≡ old) → old ≡ replicate w 32 → new ≡ in_columns w n
-in_columns_is w n true old new fits spells keeps blank =
+pub in_columns_is : {T E : Type 0} (w n : ℕ) (r : Result T E) (old new : List ℕ) → (IsOk r ↔ (length (decimal n) ≤ length old)) → OnOk r (new ≡ spelled (length old) n) → OnErr r (new ≡ old) → old ≡ replicate w 32 → new ≡ in_columns w n
+in_columns_is w n (Ok _) old new fits spells keeps blank =
     let wide : length old ≡ w = ap length blank ∙ length-replicate {A = ℕ} w 32 in
-    spells refl ∙ ap (λ k. spelled k n) wide ∙ sym (cond-true (leb (length (decimal n)) w) _ _ (le-leb _ _ (subst (λ k. length (decimal n) ≤ k) wide (fits.0 refl))))
-in_columns_is w n false old new fits spells keeps blank =
+    let room = fits.0 refl in
+    spells ∙ ap (λ k. spelled k n) wide ∙ sym (cond-true (leb (length (decimal n)) w) _ _ (le-leb _ _ (omega arith)))
+in_columns_is w n (Err _) old new fits spells keeps blank =
     let wide : length old ≡ w = ap length blank ∙ length-replicate {A = ℕ} w 32 in
-    keeps refl ∙ blank ∙ sym (cond-false (leb (length (decimal n)) w) _ _ (no_fit wide))
-  where
-    no_fit : length old ≡ w → leb (length (decimal n)) w ≡ false
-    no_fit wide = go (leb (length (decimal n)) w) refl
-      where
-        go : (b : Bool) → leb (length (decimal n)) w ≡ b → b ≡ false
-        go false e = refl
-        go true e = absurd (false≢true (fits.1 (subst (λ k. length (decimal n) ≤ k) (sym wide) (leb-true _ _ e))))
+    keeps ∙ blank ∙ sym (cond-false (leb (length (decimal n)) w) _ _ (grind (arith, nat_tests, fits.1)))
 
 pub length-in_columns : (w n : ℕ) → length (in_columns w n) ≡ w
 length-in_columns w n = go (leb (length (decimal n)) w) refl

@@ -41,9 +41,9 @@ impl Fault {
         ensures { result ≡ fault_row (told self.now) }
     {
         let mut row = *b"R               \n";
-        columns::write(self.refusal.number() as u64, &mut row[1..5]);
-        columns::write(self.record as u64, &mut row[5..10]);
-        columns::write(self.column as u64, &mut row[10..14]);
+        let _ = columns::write(self.refusal.number() as u64, &mut row[1..5]);
+        let _ = columns::write(self.record as u64, &mut row[5..10]);
+        let _ = columns::write(self.column as u64, &mut row[10..14]);
         row[15] = self.layer.letter();
         row
     }

@@ -10,7 +10,6 @@ ghost use Rattle.deck.specs.Tests.{columns, Shows, has, figure, long, kind_known
 
 use crate::fault::{Fault, Layer};
 use arrayvec::ArrayVec;
-use columns::Field;
 use netlist::draft::Draft;
 use netlist::kind::Kind;
 use netlist::refusal::Refusal;
@@ -82,11 +81,9 @@ impl<'a> Record<'a> {
         requires { span.first + span.width ≤ length self.now.fields.now + 2 }
         ensures { MatchResult result (λ n. Shows (whole self.now) span.first span.width n) (λ f. Refuted (whole self.now) self.now.number (figure span.first span.width) f) }
     {
-        match Field::read(self.columns(span)) {
-            Field::Number(number) => Ok(number),
-            Field::Blank | Field::Unreadable => {
-                Err(self.fault(Refusal::Figure, Layer::Field, span.first))
-            }
+        match columns::read(self.columns(span)) {
+            Ok(number) => Ok(number),
+            Err(_) => Err(self.fault(Refusal::Figure, Layer::Field, span.first)),
         }
     }
 

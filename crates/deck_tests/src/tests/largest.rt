@@ -8,7 +8,7 @@ use std::test::Fail;
 
 fn put_line(rt: &impl Abort, deck: &mut Vec<u8>, line: u64) -> Result<(), Fail> {
     let mut columns = [0; 4];
-    assert!(rt; write(line, &mut columns));
+    assert!(rt; write(line, &mut columns).is_ok());
     deck.extend_from_slice(&columns)?;
     Ok(())
 }

@@ -1,21 +1,7 @@
 use Rattle.std.proofs.Common.{◌≡◌, [], ◌∷◌, ◌++◌, length, refl, ap, ◌∙◌}
 use Rattle.deck.specs.Faults.{in_columns}
-use Rattle.deck.proofs.FaultRows.{in_columns_is, length-in_columns, second_blank, third_blank, room_for_second, room_for_third, row_is}
+use Rattle.deck.proofs.FaultRows.{in_columns_is, length-in_columns, second_blank, third_blank, row_is}
 use Rattle.deck.proofs.fault.Fault.row.Goals as goal
-
-pub slice_bounds-row-end-2 : goal.slice_bounds-row-end-2
-slice_bounds-row-end-2 c =
-    let first = in_columns_is 4 _ c.write.result _ c.write.new.columns c.write.ensures.fits c.write.ensures.spells c.write.ensures.keeps refl in
-    room_for_second c.write.new.columns (ap length first ∙ length-in_columns 4 _)
-
-pub slice_bounds-row-end-3 : goal.slice_bounds-row-end-3
-slice_bounds-row-end-3 c =
-    let a = c.write.new.columns in
-    let b = c.write-2.new.columns in
-    let first = in_columns_is 4 _ c.write.result _ a c.write.ensures.fits c.write.ensures.spells c.write.ensures.keeps refl in
-    let four = ap length first ∙ length-in_columns 4 _ in
-    let second = in_columns_is 5 _ c.write-2.result _ b c.write-2.ensures.fits c.write-2.ensures.spells c.write-2.ensures.keeps (second_blank a four) in
-    room_for_third a four b (ap length second ∙ length-in_columns 5 _)
 
 pub returns : goal.returns
 returns c =

@@ -52,9 +52,6 @@ module _ (a : List ℕ) (four : length a ≡ 4) where
   pub second_blank : take 5 (drop 5 (row_one a)) ≡ replicate 5 32
   second_blank = part_at (82 ∷ a) (replicate 5 32) (replicate 4 32 ++ (32 ∷ 32 ∷ 10 ∷ [])) 5 5 (omega arith) refl
 
-  pub room_for_second : 10 ≤ length (row_one a)
-  room_for_second = let long = length-append a (replicate 5 32 ++ (replicate 4 32 ++ (32 ∷ 32 ∷ 10 ∷ []))) in omega arith
-
   module _ (b : List ℕ) (five : length b ≡ 5) where
     row_two_is : row_two a b ≡ ((82 ∷ a) ++ b) ++ (replicate 4 32 ++ (32 ∷ 32 ∷ 10 ∷ []))
     row_two_is =
@@ -63,12 +60,6 @@ module _ (a : List ℕ) (four : length a ≡ 4) where
 
     front_long : length ((82 ∷ a) ++ b) ≡ 10
     front_long = let long = length-append (82 ∷ a) b in omega arith
-
-    pub room_for_third : 14 ≤ length (row_two a b)
-    room_for_third =
-        let whole = ap length row_two_is ∙ length-append ((82 ∷ a) ++ b) (replicate 4 32 ++ (32 ∷ 32 ∷ 10 ∷ [])) in
-        let front = front_long in
-        omega arith
 
     pub third_blank : take 4 (drop 10 (row_two a b)) ≡ replicate 4 32
     third_blank = ap (λ l. take 4 (drop 10 l)) row_two_is ∙ part_at ((82 ∷ a) ++ b) (replicate 4 32) (32 ∷ 32 ∷ 10 ∷ []) 10 4 front_long refl

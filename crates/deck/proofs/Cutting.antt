@@ -1,7 +1,7 @@
 -- Fields cut from the left: a text whose columns are known is those columns, one after the other.
-use Rattle.std.proofs.Common.{◌≡◌, ℕ, suc, ◌+◌, ◌-◌, ◌*◌, ◌/◌, ◌<◌, ◌≤◌, true, false, eqb, List, [], ◌∷◌, ◌++◌, length, get_or, take, drop, Decides, sym, refl, ap, ◌∙◌, subst, ⊎_elim, append-nil, arith, take-append-drop}
+use Rattle.std.proofs.Common.{◌≡◌, ℕ, suc, ◌+◌, ◌-◌, ◌*◌, ◌/◌, ◌<◌, ◌≤◌, true, false, eqb, List, [], ◌∷◌, ◌++◌, length, get_or, take, drop, Decides, sym, refl, ap, ◌∙◌, subst, ⊎_elim, arith, take-append-drop}
 use Rattle.std.specs.List.{flat_map, HoldsAt}
-use Rattle.std.proofs.lemmas.List.{drop-drop, drop_all, append_assoc}
+use Rattle.std.proofs.lemmas.List.{drop-drop, append_assoc}
 use Rattle.std.proofs.lemmas.Bool.{and_from, eqb-true, or_cases, false≢true}
 use Rattle.std.proofs.lemmas.Bool.Decides.{Decides-by_or, Decides-like, Decides-eqb}
 use Rattle.netlist.specs.Gates.{in_range, on_lines}
@@ -10,10 +10,6 @@ use Rattle.deck.specs.Tests.{has}
 
 pub cut : (fs x : List ℕ) (k w : ℕ) → take w (drop k fs) ≡ x → drop k fs ≡ x ++ drop (k + w) fs
 cut fs x k w e = sym (take-append-drop w (drop k fs)) ∙ ap (λ l. l ++ drop w (drop k fs)) e ∙ ap (λ l. x ++ l) (drop-drop w k fs)
-
--- the last columns
-pub cut_last : (fs x : List ℕ) (k w : ℕ) → length fs ≤ k + w → take w (drop k fs) ≡ x → drop k fs ≡ x
-cut_last fs x k w all e = cut fs x k w e ∙ ap (λ l. x ++ l) (drop_all (k + w) fs all) ∙ append-nil x
 
 -- numbers of four columns each, from place k on
 pub cut_joined : (fs ns : List ℕ) (k : ℕ) → ((i : ℕ) → i < length ns → take 4 (drop (k + 4 * i) fs) ≡ spelled 4 (get_or ns i 0)) → drop k fs ≡ flat_map (spelled 4) ns ++ drop (k + 4 * length ns) fs

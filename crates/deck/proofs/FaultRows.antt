@@ -48,9 +48,6 @@ module _ (a : List ℕ) (four : length a ≡ 4) where
   pub second_blank : take 5 (drop 5 (row_one a)) ≡ replicate 5 32
   second_blank = part_at (82 ∷ a) (replicate 5 32) (replicate 4 32 ++ (32 ∷ 32 ∷ 10 ∷ [])) 5 5 (omega arith) refl
 
-  pub room_for_second : 10 ≤ length (row_one a)
-  room_for_second = let long = length-append a (replicate 5 32 ++ (replicate 4 32 ++ (32 ∷ 32 ∷ 10 ∷ []))) in omega arith
-
   module _ (b : List ℕ) (five : length b ≡ 5) where
     row_two_is : row_two a b ≡ ((82 ∷ a) ++ b) ++ (replicate 4 32 ++ (32 ∷ 32 ∷ 10 ∷ []))
     row_two_is =

@@ -216,6 +216,3 @@ module _ (d : DeckReader) (e : d.phase ≡ End) where
 
   pub reader_expects_end : expected (progress_of d) ≡ end_next
   reader_expects_end = ap expected (progress_in d End e) ∙ expects_end _ at_end
-
-  pub ends : Stands d Done (sheet d.draft) end
-  ends = record { agreed = agrees_in d End e; grown = ap (λ p. rows p ++ (end ∷ [])) (sym (progress_in d End e)) }

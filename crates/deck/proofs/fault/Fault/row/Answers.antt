@@ -1,12 +1,7 @@
 use Rattle.std.proofs.Common.{◌≡◌, [], ◌∷◌, ◌++◌, length, refl, ap, ◌∙◌}
 use Rattle.deck.specs.Faults.{in_columns}
-use Rattle.deck.proofs.FaultRows.{in_columns_is, length-in_columns, second_blank, third_blank, room_for_second, room_for_third, row_is}
+use Rattle.deck.proofs.FaultRows.{in_columns_is, length-in_columns, second_blank, third_blank, room_for_third, row_is}
 use Rattle.deck.proofs.fault.Fault.row.Goals as goal
-
-pub slice_bounds-row-end-2 : goal.slice_bounds-row-end-2
-slice_bounds-row-end-2 c =
-    let first = in_columns_is 4 _ c.write.result _ c.write.new.columns c.write.ensures.fits c.write.ensures.spells c.write.ensures.keeps refl in
-    room_for_second c.write.new.columns (ap length first ∙ length-in_columns 4 _)
 
 pub slice_bounds-row-end-3 : goal.slice_bounds-row-end-3
 slice_bounds-row-end-3 c =

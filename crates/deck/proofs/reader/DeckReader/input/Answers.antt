@@ -1,9 +1,7 @@
-use Rattle.std.proofs.Common.{◌+◌, length, sym, refl, ◌∙◌, subst, inl, inr, arith}
+use Rattle.std.proofs.Common.{length, sym, refl, ◌∙◌, subst, inl, inr, arith}
 use Rattle.deck.specs.Records.{whole, Failed, fields_tests}
-use Rattle.deck.specs.Rows.{input}
 use Rattle.deck.proofs.Exits.{carried}
 use Rattle.deck.proofs.Readers.{few_records, counted_more, reader_expects_input, input_stands}
-use Rattle.deck.proofs.Taking.{whole_is}
 use Rattle.deck.proofs.reader.DeckReader.input.Goals as goal
 use Rattle.deck.proofs.reader.DeckReader.input.Goals.{then-line-inputs, else-line-inputs}
 
@@ -27,10 +25,3 @@ invariant_of-self c =
       phased = at.agreed;
       counted = counted_more d _ _ at.grown;
     }
-
-pub returns : goal.returns
-returns c = record {
-  spelling = whole_is c.args.source.now (input (c.args.told + 1)) 73 c.requires.letter c.in_ok-input.ensures refl;
-  unmarked = tt;
-  one_more = (input_stands c.args.self.now c.args.told c.requires.phase c.if-line-inputs.phase (elim c.if-line-inputs.branch [ then-line-inputs w ↦ inl (w.if-line-inputs.true ∙ c.inputs.ensures, w.phase-is) | else-line-inputs w ↦ inr (λ e. w.if-line-inputs.false (e ∙ sym c.inputs.ensures), w.phase-is) ])).grown;
-}

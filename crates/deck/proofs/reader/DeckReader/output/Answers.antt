@@ -1,8 +1,6 @@
-use Rattle.std.proofs.Common.{◌≡◌, true, refl, subst, inl, inr, arith}
+use Rattle.std.proofs.Common.{◌≡◌, true, subst, inl, inr, arith}
 use Rattle.netlist.specs.Gates.{in_range}
-use Rattle.deck.specs.Rows.{output}
 use Rattle.deck.proofs.Readers.{few_records, counted_more, output_added, output_stands}
-use Rattle.deck.proofs.Taking.{whole_is}
 use Rattle.deck.proofs.reader.DeckReader.output.Goals as goal
 use Rattle.deck.proofs.reader.DeckReader.output.Goals.{then-takes_output, else-takes_output}
 
@@ -20,17 +18,4 @@ invariant_of-self c =
     record {
       phased = at.agreed;
       counted = counted_more d _ _ at.grown;
-    }
-
-pub returns : goal.returns
-returns c =
-    let d = c.args.self.now in
-    let n = c.in_ok-line.line in
-    let on = subst (λ m. in_range 1 m n ≡ true) c.lines.ensures c.in_ok-line.ensures.1 in
-    let t = c.add_output.new.self in
-    let is = output_added d c.requires.phase n t c.add_output.result c.add_output.ensures.answers c.add_output.ensures.adds on in
-    record {
-      spelling = whole_is c.args.source.now (output n) 79 c.requires.letter c.in_ok-line.ensures.0 refl;
-      unmarked = tt;
-      one_more = (output_stands d c.requires.phase n t is c.if-takes_output.phase (elim c.if-takes_output.branch [ then-takes_output w ↦ inl (w.if-takes_output.ensures, w.phase-is) | else-takes_output w ↦ inr (w.if-takes_output.ensures, w.phase-is) ])).grown;
     }

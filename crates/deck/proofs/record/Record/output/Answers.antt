@@ -1,7 +1,4 @@
-use Rattle.std.proofs.Common.{arith}
-use Rattle.netlist.proofs.Ranges.{inside}
 use Rattle.deck.specs.Tests.{long}
-use Rattle.deck.proofs.Cutting.{cut_last, has_one}
 use Rattle.deck.proofs.Exits.{carried}
 use Rattle.deck.proofs.Failing.{failed_one, failed_after}
 use Rattle.deck.proofs.record.Record.output.Goals as goal
@@ -11,9 +8,3 @@ returns-in_err-length c = carried c.from_residual.result _ _ _ c.from_residual.e
 
 pub returns-in_err-line : goal.returns-in_err-line
 returns-in_err-line c = carried c.from_residual-in_err-line.result _ _ _ c.from_residual-in_err-line.ensures.1 (failed_after _ _ (long _) _ _ c.in_ok-length.ensures c.in_err-line.ensures)
-
-pub returns : goal.returns
-returns c =
-    let long5 = has_one _ 5 c.in_ok-length.ensures in
-    let line = c.in_ok-line.ensures in
-    (cut_last c.args.self.now.fields.now _ 0 4 (omega arith) line.0.spelling, inside 1 c.args.lines c.in_ok-line.line (omega arith) (omega arith))

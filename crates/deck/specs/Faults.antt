@@ -1,7 +1,7 @@
 -- A fault, by its number, the letter of its layer, its record and its column.
-use Rattle.std.specs.Prelude.{ℕ, cond, List, [], ◌∷◌, ◌++◌, length, replicate, decimal, nat_le}
+use Rattle.std.specs.Prelude.{ℕ, cond, List, [], ◌∷◌, ◌++◌, length, replicate, codes, decimal, nat_le}
 use Rattle.columns.specs.Spelling.{spelled}
-use Rattle.netlist.specs.Refusals.{number}
+use Rattle.netlist.specs.Refusals.{number, word}
 use Rattle.deck.specs.declared.fault.Layer.{Layer}
 use Rattle.deck.specs.declared.fault.Layer.TheVariants.{Field, Record, Netlist, Session}
 use Rattle.deck.specs.declared.fault.Fault.{Fault}
@@ -29,3 +29,7 @@ in_columns width n = cond (nat_le (length (decimal n)) width) (spelled width n) 
 -- the row that tells a fault: R, number in columns 2 to 5, record 6 to 10, column 11 to 14, layer 16
 abbrev pub fault_row : Told → List ℕ
 fault_row f = 82 ∷ (in_columns 4 f.number ++ (in_columns 5 f.at ++ (in_columns 4 f.column ++ (32 ∷ f.layer ∷ 10 ∷ []))))
+
+-- what `{}` prints of a fault
+abbrev pub message : Fault → List ℕ
+message f = word f.refusal ++ (codes " in record " ++ (decimal f.«record» ++ (codes ", column " ++ decimal f.column)))

@@ -3,26 +3,23 @@ ghost use Rattle.std.specs.Prelude.{◌≡◌};
 ghost use Rattle.deck.specs.Faults.{layer_letter, told, fault_row};
 
 use netlist::refusal::Refusal;
+use std::error::Error;
+use std::fmt;
 
 // The layer that refused: a number field, a record, the netlist, or the session.
 #[derive(Clone, Copy, PartialEq, Eq, Debug)]
 pub enum Layer {
-    Field,
-    Record,
-    Netlist,
-    Session,
+    Field = b'F' as isize,
+    Record = b'R' as isize,
+    Netlist = b'N' as isize,
+    Session = b'S' as isize,
 }
 
 impl Layer {
     pub fn letter(self) -> u8
         ensures { result ≡ layer_letter self }
     {
-        match self {
-            Layer::Field => b'F',
-            Layer::Record => b'R',
-            Layer::Netlist => b'N',
-            Layer::Session => b'S',
-        }
+        self as u8
     }
 }
 
@@ -48,3 +45,19 @@ impl Fault {
         row
     }
 }
+
+impl fmt::Display for Fault {
+    ghost use Rattle.std.specs.Prelude.{Some};
+    ghost use Rattle.deck.specs.Faults.{message};
+
+    ghost output = { λ fault. Some (message fault) };
+
+    fn fmt<W: fmt::Write>(&self, f: &mut fmt::Formatter<W>) -> fmt::Result {
+        let refusal = self.refusal;
+        let record = self.record;
+        let column = self.column;
+        write!(f, "{refusal} in record {record}, column {column}")
+    }
+}
+
+impl Error for Fault {}

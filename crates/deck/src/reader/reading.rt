@@ -63,6 +63,7 @@ impl DeckReader {
     {
         let mut used = 0;
         while self.phase != Phase::Done {
+            // The entry is named, since the checker looks for its type among the locals.
             let Taken {
                 entry: _entry,
                 bytes: length,

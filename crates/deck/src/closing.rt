@@ -39,7 +39,8 @@ fn check(outcome: Result<usize, Fault>, draft: &Draft) -> Result<usize, Fault>
     Ok(used)
 }
 
-// Reads a deck and closes its draft: the bytes used and the netlist, or the first fault and the empty netlist.
+// Reads a deck and closes its draft: the bytes used and the netlist, or the first fault and the empty netlist. A pair,
+// since a netlist comes either way.
 pub fn read_netlist(bytes: &[u8]) -> (Result<usize, Fault>, Netlist)
     ensures comes_to { ClosedOutcome bytes.now (answer_of result.0) (circuit result.1) }
     ensures only { (a : Answer) (c : Circuit) → ClosedOutcome bytes.now a c → (a ≡ answer_of result.0) × (c ≡ circuit result.1) }

@@ -33,7 +33,8 @@ pub struct Fault {
 }
 
 impl Fault {
-    // The row of a listing that tells the fault: R, number, record and column right-justified, the layer's letter.
+    // The row of a listing that tells the fault: R, number, record and column right-justified, the layer's letter. A
+    // number too long for its columns leaves them blank, which a width of `{}` does not.
     pub fn row(&self) -> [u8; 17]
         ensures { result ≡ fault_row (told self.now) }
     {

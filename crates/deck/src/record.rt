@@ -67,7 +67,7 @@ impl<'a> Record<'a> {
         }
     }
 
-    // The bytes in the columns.
+    // The bytes in the columns. That they lie within the record ties the two, so it is asked here.
     fn columns(&self, span: Span) -> &[u8]
         requires { span.first + span.width ≤ length self.now.fields.now + 2 }
         ensures { result.now ≡ columns (whole self.now) span.first span.width }
@@ -112,7 +112,8 @@ impl<'a> Record<'a> {
         Ok(())
     }
 
-    // The kind of a gate.
+    // The kind of a gate. The four columns are matched whole, blanks too: a name that is cut out and then looked up
+    // would take two steps.
     fn kind(&self) -> Result<Kind, Fault>
         requires { 8 ≤ length self.now.fields.now }
         ensures { MatchResult result (λ k. columns (whole self.now) 6 4 ≡ kind_text k) (λ f. Refuted (whole self.now) self.now.number kind_known f) }

@@ -32,7 +32,7 @@ impl From<io::Error> for Stop {
     }
 }
 
-// Takes the records of a deck one by one, and answers the draft.
+// Takes the records of a deck one by one, and answers the draft. A record's number is printed, and so are the bytes used.
 fn take_records(rt: &impl Print, bytes: &[u8]) -> Result<Draft, Stop> {
     let mut reader = DeckReader::new();
     let mut used = 0;

@@ -10,7 +10,7 @@ use crate::row::{GateRow, row_of_line};
 use crate::size::Size;
 
 // A netlist whose gates are all reached by an input, with its looped gates marked; or the empty one,
-// which has no lines.
+// which has no lines. Its tables are those of the draft, which are moved here.
 #[derive(Drop)]
 pub struct Netlist {
     pub(crate) size: Size,

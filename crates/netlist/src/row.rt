@@ -10,7 +10,8 @@ use std::fmt;
 use std::marker::Model;
 
 // A gate: its kind, its delay, and the lines it reads, of which the first `count` stand in `lines`, with 0 after them.
-// `looped` is set at closing: a walk through gates leads from the gate's line back to itself.
+// `looped` is set at closing: a walk through gates leads from the gate's line back to itself. An array and a count, since
+// an empty row is repeated in the table, and a vector of bounded length cannot be copied.
 #[derive(Clone, Copy, Debug)]
 pub struct GateRow {
     pub kind: Kind,

@@ -56,7 +56,7 @@ impl DeckReader {
         }
     }
 
-    // Takes records to the end of the deck.
+    // Takes records to the end of the deck. How many bytes they took so far is also where the next begins.
     fn run(&mut self, bytes: &[u8]) -> Result<usize, Fault>
         requires { progress_of self.old ≡ blank }
         ensures { MatchResult result (λ n. ReadAll self.new bytes.now n) (λ f. FirstFault bytes.now (told f) × Unfinished self.new) }
@@ -74,7 +74,7 @@ impl DeckReader {
     }
 }
 
-// Reads a deck: the bytes used and the draft, or the first fault and a dead draft.
+// Reads a deck: the bytes used and the draft, or the first fault and a dead draft. A pair, since a draft comes either way.
 pub fn read(bytes: &[u8]) -> (Result<usize, Fault>, Draft)
     ensures comes_to { Outcome bytes.now (answer_of result.0) (sheet result.1) }
     ensures only { (a : Answer) (s : Sheet) → Outcome bytes.now a s → (a ≡ answer_of result.0) × (s ≡ sheet result.1) }

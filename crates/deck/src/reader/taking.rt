@@ -107,7 +107,8 @@ impl DeckReader {
         Ok(Entry::End)
     }
 
-    // Takes a record, whose letter and the reader's own phase together decide what it may be.
+    // Takes a record, whose letter and the reader's own phase together decide what it may be. They are matched here, in
+    // one place, and the letter is matched as the byte that it is.
     pub(super) fn take_record(&mut self, bytes: &[u8]) -> Result<Entry, Fault>
         ensures { Answers self.old self.new bytes.now (suc (length (rows (progress_of self.old)))) tests result }
     {

@@ -19,7 +19,7 @@ pub(super) const RECORDS: [&str; 6] = [
 pub(super) const BASE: &[u8; 70] =
     b"N   1   2   1\nI   1\nG   2NOT     2   1\nG   3AND     1   1   2\nO   3\nE\n";
 
-// A fault: its number, its layer's letter, its record and its column.
+// A fault as users meet it: its number, its layer's letter, its record and its column.
 pub(super) type Told = (u8, char, usize, usize);
 
 pub(super) fn sized(inputs: usize, gates: usize, outputs: usize) -> Size {

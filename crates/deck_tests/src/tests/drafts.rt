@@ -7,7 +7,7 @@ use netlist::refusal::Refusal;
 use std::process::Abort;
 use std::test::Fail;
 
-// 0, or the number of the refusal.
+// 0, or the number of the refusal, by which users know it.
 fn number(answer: Result<(), Refusal>) -> u8 {
     match answer {
         Ok(()) => 0,

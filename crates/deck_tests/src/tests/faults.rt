@@ -4,7 +4,7 @@ use std::alloc::Global;
 use std::process::Abort;
 use std::test::Fail;
 
-// A text put in the place of a record, and the number, layer and column of that record's fault.
+// A text put in the place of a record, and the number, layer and column of that record's fault, as users meet it.
 type Refused = (&'static str, u8, char, usize);
 
 fn check_refused(

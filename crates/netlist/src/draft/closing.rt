@@ -16,7 +16,7 @@ use crate::size::Size;
 
 impl Draft {
     // Answers what judging answers, and gives the netlist: the draft's where nothing is refused, else the
-    // empty one.
+    // empty one. A pair, since a netlist comes either way.
     pub fn close(self) -> (Result<(), Refusal>, Netlist)
         ensures answers { Judged (sheet self) (answer result.0) }
         ensures keeps { answer result.0 ≡ 0 → circuit result.1 ≡ (sheet self).circuit }

@@ -22,10 +22,10 @@ impl Draft {
     pub fn limits(size: Size) -> Result<(), Refusal>
         ensures answers { answer result ≡ limits_answer size.inputs size.gates size.outputs }
     {
-        if (1..=Self::MOST_INPUTS).contains(&size.inputs)
-            && (1..=Self::MOST_GATES).contains(&size.gates)
-            && (1..=Self::MOST_OUTPUTS).contains(&size.outputs)
-        {
+        let inputs_fit = (1..=Self::MOST_INPUTS).contains(&size.inputs);
+        let gates_fit = (1..=Self::MOST_GATES).contains(&size.gates);
+        let outputs_fit = (1..=Self::MOST_OUTPUTS).contains(&size.outputs);
+        if inputs_fit && gates_fit && outputs_fit {
             Ok(())
         } else {
             Err(Refusal::Range)

@@ -1,6 +1,6 @@
 -- No refusal has the number 0, so an answer of 0 says that nothing was refused.
-use Rattle.std.proofs.Common.{◌≡◌, ℕ, ◌<◌, Bool, true, false, cond, ◌&&◌, length, refl, ◌∙◌, arith, lit<}
-use Rattle.std.proofs.lemmas.Bool.{and_from, and_parts, cond-true}
+use Rattle.std.proofs.Common.{◌≡◌, ℕ, ◌<◌, Bool, true, false, cond, ◌&&◌, length, refl, ◌∙◌, arith}
+use Rattle.std.proofs.lemmas.Bool.{and_parts, cond-true}
 use Rattle.netlist.specs.declared.refusal.Refusal.{Refusal}
 use Rattle.netlist.specs.Drafts.{Sheet, gate_answer, output_answer, takes_gate, takes_output, lines}
 use Rattle.netlist.specs.Gates.{Gate, legal, fits, delay_fits, in_range, on_lines}
@@ -35,15 +35,6 @@ failed r true n e = absurd (omega (arith, number_some r))
 pub passed : (test : Bool) (rest n : ℕ) → 0 < n → cond test rest n ≡ 0 → (test ≡ true) × (rest ≡ 0)
 passed true rest n some e = (refl, e)
 passed false rest n some e = absurd (omega arith)
-
--- a gate that is not refused was next, and is legal
-pub gate_accepted : (s : Sheet) (g : Gate) → gate_answer s g ≡ 0 → (takes_gate s ≡ true) × (legal (lines s) g ≡ true)
-gate_accepted s g e =
-    let next = passed (takes_gate s) _ 2 (lit< tt) e in
-    let delay = passed (delay_fits g.delay) _ 5 (lit< tt) next.1 in
-    let reads = passed (on_lines (lines s) g.reads) _ 5 (lit< tt) delay.1 in
-    let count = passed (fits g.kind (length g.reads)) 0 7 (lit< tt) reads.1 in
-    (next.0, and_from _ _ (and_from _ _ delay.0 reads.0) count.0)
 
 -- a legal gate that is next is not refused, nor is an output on a line that is next
 pub gate_taken : (s : Sheet) (g : Gate) → takes_gate s ≡ true → legal (lines s) g ≡ true → gate_answer s g ≡ 0

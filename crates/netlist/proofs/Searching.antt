@@ -16,9 +16,6 @@ use Rattle.netlist.specs.Walks.Walk.{step, on}
 pub further : (c : Circuit) (n j m : ℕ) → Upstream c n j → Reads c j m → Walk c m n
 further c n j m up read = ⊎_elim (λ e. step (subst (λ k. Reads c k m) e read)) (λ w. on read w) up
 
-pub grows_refl : (s : Search) → Grows s s
-grows_refl s = record { count = omega arith; found = λ i h. refl; seen_stays = λ m h. h; next = refl }
-
 pub grows_trans : (s t u : Search) → Grows s t → Grows t u → Grows s u
 grows_trans s t u g h = record {
   count = omega arith;

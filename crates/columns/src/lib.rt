@@ -18,6 +18,7 @@ pub enum FieldError {
     Unreadable,
 }
 
+// Written out, since its text is promised; likewise the other error's.
 impl fmt::Display for FieldError {
     ghost use Rattle.columns.specs.Messages.{message};
 

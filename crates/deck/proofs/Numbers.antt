@@ -1,5 +1,5 @@
 -- A number in columns: what a field means, and what the tests of a field say.
-use Rattle.std.proofs.Common.{◌≡◌, ℕ, ◌+◌, ◌-◌, ◌^◌, ◌<◌, ◌≤◌, List, ◌∷◌, length, drop, replicate, decimal, Result, Ok, sym, ap, ◌∙◌, subst, le_trans, lt_of_lt_of_le, arith, lit<, lit≤}
+use Rattle.std.proofs.Common.{◌≡◌, ℕ, ◌+◌, ◌-◌, ◌^◌, ◌<◌, ◌≤◌, List, ◌∷◌, length, drop, replicate, decimal, Result, MatchResult, Ok, Err, sym, ap, ◌∙◌, subst, le_trans, lt_of_lt_of_le, arith, lit<, lit≤}
 use native.Mathlib.Nat.{pow-le-pow_right}
 use Rattle.std.proofs.lemmas.Fmt.{decimal_is_IsNumeral}
 use Rattle.std.proofs.lemmas.Int.Digits.{digits_value-lt}
@@ -22,17 +22,18 @@ narrow_small w n narrow fits = lt_of_lt_of_le fits (le_trans (pow-le-pow_right {
 
 -- what a field of so many columns means, and what its columns show
 module _ (r : List ℕ) (column width : ℕ) (there : length (columns r column width) ≡ width) where
-  pub shows_number : (n : ℕ) → Means (columns r column width) (Ok n) → Shows r column width n
+  shows_number : (n : ℕ) → Means (columns r column width) (Ok n) → Shows r column width n
   shows_number n m =
       let spelling : columns r column width ≡ spelled width n = m.1 ∙ ap (λ w. spelled w n) there in
       record { fits = spelled_bound width n m.0 (ap length (sym spelling) ∙ there); spelling = spelling }
 
-  pub shown_means : (n : ℕ) → width ≤ 19 → Shows r column width n → Means (columns r column width) (Ok n)
+  shown_means : (n : ℕ) → width ≤ 19 → Shows r column width n → Means (columns r column width) (Ok n)
   shown_means n narrow shown = (narrow_small width n narrow shown.fits, shown.spelling ∙ ap (λ w. spelled w n) (sym there))
 
-  -- where the columns mean no number, they show none
-  pub shows_none : (f : Result ℕ FieldError) → width ≤ 19 → ((n : ℕ) → f ≡ Ok n → ⊥) → Means (columns r column width) f → (n : ℕ) → Shows r column width n → ⊥
-  shows_none f narrow other m n shown = other n (means_one (columns r column width) f (Ok n) m (shown_means n narrow shown))
+  -- what is read is the number that the columns show, or they show none
+  pub shown_or_none : (f : Result ℕ FieldError) → width ≤ 19 → Means (columns r column width) f → MatchResult f (λ n. Shows r column width n) (λ _. (n : ℕ) → Shows r column width n → ⊥)
+  shown_or_none (Ok n) narrow m = shows_number n m
+  shown_or_none (Err e) narrow m = λ n shown. let same = means_one (columns r column width) (Err e) (Ok n) m (shown_means n narrow shown) in cc
 
 -- columns that lie within a record are as many as they should be
 pub length-columns : (letter : ℕ) (fields : List ℕ) (column width : ℕ) → 2 ≤ column → column + width ≤ length fields + 2 → length (columns (letter ∷ fields) column width) ≡ width

@@ -16,15 +16,16 @@ pub enum Entry {
 impl fmt::Display for Entry {
     fn fmt<W: fmt::Write>(&self, f: &mut fmt::Formatter<W>) -> fmt::Result {
         match self {
-            Entry::Header(size) => {
-                let inputs = size.inputs;
-                let gates = size.gates;
-                let outputs = size.outputs;
-                write!(
-                    f,
-                    "header, {inputs} inputs, {gates} gates, {outputs} outputs"
-                )
-            }
+            Entry::Header(
+                Size {
+                    inputs,
+                    gates,
+                    outputs,
+                },
+            ) => write!(
+                f,
+                "header, {inputs} inputs, {gates} gates, {outputs} outputs"
+            ),
             Entry::Input(line) => write!(f, "input on line {line}"),
             Entry::Gate(line, row) => write!(f, "gate on line {line}: {row}"),
             Entry::Output(line) => write!(f, "output of line {line}"),

@@ -47,6 +47,7 @@ impl Fault {
     }
 }
 
+// Written out, since its text is promised.
 impl fmt::Display for Fault {
     ghost use Rattle.std.specs.Prelude.{Some};
     ghost use Rattle.deck.specs.Faults.{message};
@@ -54,9 +55,12 @@ impl fmt::Display for Fault {
     ghost output = { λ fault. Some (message fault) };
 
     fn fmt<W: fmt::Write>(&self, f: &mut fmt::Formatter<W>) -> fmt::Result {
-        let refusal = self.refusal;
-        let record = self.record;
-        let column = self.column;
+        let Fault {
+            refusal,
+            record,
+            column,
+            ..
+        } = self;
         write!(f, "{refusal} in record {record}, column {column}")
     }
 }

@@ -81,10 +81,11 @@ impl<'a> Record<'a> {
         requires { span.first + span.width ≤ length self.now.fields.now + 2 }
         ensures { MatchResult result (λ n. Shows (whole self.now) span.first span.width n) (λ f. Refuted (whole self.now) self.now.number (figure span.first span.width) f) }
     {
-        match columns::read(self.columns(span)) {
-            Ok(number) => Ok(number),
-            Err(_) => Err(self.fault(Refusal::Figure, Layer::Field, span.first)),
-        }
+        columns::read(self.columns(span)).or(Err(self.fault(
+            Refusal::Figure,
+            Layer::Field,
+            span.first,
+        )))
     }
 
     // The number in the columns, which is at least 1 and at most so much.
@@ -183,7 +184,7 @@ impl<'a> Record<'a> {
         self.turn(line)
     }
 
-    // G: the next gate.
+    // G: the next gate. The fault of its row is matched, since a closure would promise nothing of what it makes.
     pub(crate) fn gate(&self, line: usize, lines: usize) -> Result<GateRow, Fault>
         ensures { MatchResult result (λ row. Spells self.now (gate line (gate_of row)) × (legal lines (gate_of row) ≡ true) × (row.looped ≡ false)) (λ f. Failed (whole self.now) self.now.number (fields_tests (gate_next line lines) (length (whole self.now))) f) }
     {

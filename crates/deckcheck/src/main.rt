@@ -9,30 +9,22 @@ use deck::reader::DeckReader;
 use netlist::draft::Draft;
 use std::io;
 use std::io::{Read, Write};
+use thiserror::Error;
 
 // What lies beyond is not read.
 const MOST_BYTES: usize = 32_768;
 
 // Why a check ends early: a fault of the deck, or an error of reading or printing.
-#[derive(Drop)]
+#[derive(Debug, Drop, Error)]
 enum Stop {
-    Fault(Fault),
-    Io(io::Error),
+    #[error("{0}")]
+    Fault(#[from] Fault),
+    #[error("{0}")]
+    Io(#[from] io::Error),
 }
 
-impl From<Fault> for Stop {
-    fn from(fault: Fault) -> Stop {
-        Stop::Fault(fault)
-    }
-}
-
-impl From<io::Error> for Stop {
-    fn from(error: io::Error) -> Stop {
-        Stop::Io(error)
-    }
-}
-
-// Takes the records of a deck one by one, and answers the draft. A record's number is printed, and so are the bytes used.
+// Takes the records of a deck one by one, and answers the draft. Records and bytes are counted here, since both counts are
+// printed.
 fn take_records(rt: &impl Print, bytes: &[u8]) -> Result<Draft, Stop> {
     let mut reader = DeckReader::new();
     let mut used = 0;
@@ -54,7 +46,7 @@ fn close(rt: &impl Print, draft: Draft) -> Result<(), Stop> {
     if let Err(fault) = check_reached(&draft) {
         let record = fault.record;
         println!(rt; "judged: no input reaches the gate of record {record}")?;
-        return Err(Stop::Fault(fault));
+        return Err(fault.into());
     }
     println!(rt; "judged: an input reaches every gate")?;
     let (_, netlist) = draft.close();

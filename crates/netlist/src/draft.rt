@@ -14,8 +14,8 @@ pub mod opening;
 mod search;
 mod walking;
 
-// The size that it was opened for (0 in a dead draft), and how many rows and outputs are filled so far. The tables are
-// of a fixed size, and all their rows stand empty at first.
+// The size that it was opened for (0 in a dead draft), and how many rows and outputs are filled so far. Plain tables with
+// counts, since all their rows are made at once, each as an empty one.
 #[derive(Drop)]
 pub struct Draft {
     size: Size,

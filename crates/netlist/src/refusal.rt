@@ -60,6 +60,7 @@ impl Refusal {
     }
 }
 
+// Written out, since its text is promised.
 impl fmt::Display for Refusal {
     ghost output = { λ refusal. Some (word refusal) };
 

@@ -65,7 +65,7 @@ impl GateRow {
         })
     }
 
-    // Marks the gate's line as looped, or as not.
+    // Marks the gate's line as looped, or as not. A call, since a row in a table is changed whole.
     pub(crate) fn mark(&mut self, looped: bool)
         ensures { self.new ≡ record { gate = self.old.gate; looped = looped } }
     {
@@ -82,8 +82,7 @@ impl GateRow {
 
 impl fmt::Display for GateRow {
     fn fmt<W: fmt::Write>(&self, f: &mut fmt::Formatter<W>) -> fmt::Result {
-        let kind = self.kind;
-        let delay = self.delay;
+        let GateRow { kind, delay, .. } = self;
         write!(f, "{kind}, delay {delay}, reads")?;
         for line in self.reads() {
             write!(f, " {line}")?;
@@ -96,5 +95,34 @@ impl fmt::Display for GateRow {
 pub(crate) fn row_of_line(rows: &[GateRow], inputs: usize, line: u32) -> Option<&GateRow>
     ensures { MatchOption result ((line ≤ inputs) ⊎ (inputs + length rows.now < line)) (λ row. (k : ℕ) × (k < length rows.now) × (line ≡ inputs + 1 + k) × (row.now ≡ slice_index_or rows.now k empty)) }
 {
-    rows.get((line as usize).checked_sub(inputs)?.checked_sub(1)?)
+    let place = (line as usize).checked_sub(inputs)?.checked_sub(1)?;
+    rows.get(place)
+}
+
+#[cfg(test)]
+mod tests {
+    use super::*;
+
+    #[test]
+    fn keeps_its_lines_first_and_zeros_after(rt: HostRuntime) -> Result<(), Refusal> {
+        let table: [(Kind, &[u32], [u32; 4], usize); 8] = [
+            (Kind::Nor, &[2, 3, 1], [2, 3, 1, 0], 3),
+            (Kind::Buf, &[1], [1, 0, 0, 0], 1),
+            (Kind::Buf, &[256], [256, 0, 0, 0], 1),
+            (Kind::And, &[7, 8], [7, 8, 0, 0], 2),
+            (Kind::Nand, &[768, 1, 257, 1], [768, 1, 257, 1], 4),
+            (Kind::Nand, &[767, 256, 512, 1], [767, 256, 512, 1], 4),
+            (Kind::Xnor, &[513, 257, 1, 1], [513, 257, 1, 1], 4),
+            (Kind::Xnor, &[768, 512, 256, 1024], [768, 512, 256, 1024], 4),
+        ];
+        for (kind, reads, lines, count) in table {
+            let GateRow {
+                lines: kept,
+                count: taken,
+                ..
+            } = GateRow::new(kind, 65_535, reads)?;
+            assert_eq!(rt; (kept, taken), (lines, count));
+        }
+        Ok(())
+    }
 }

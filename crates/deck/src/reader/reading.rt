@@ -8,7 +8,7 @@ ghost use Rattle.deck.specs.Readers.{progress_of, finished, TookFrom, ReadAll, U
 
 use super::DeckReader;
 use crate::entry::Taken;
-use crate::fault::{Fault, Layer};
+use crate::fault::Fault;
 use crate::phase::Phase;
 use netlist::draft::Draft;
 use netlist::refusal::Refusal;
@@ -27,21 +27,16 @@ impl DeckReader {
         ensures { MatchResult result (λ t. TookFrom self.old self.new bytes.now t) (λ f. Fails (progress_of self.old) (suc (length (rows (progress_of self.old)))) bytes.now (told f) × (self.new ≡ self.old)) }
     {
         let Some(length) = record_length(bytes) else {
-            return Err(Fault {
-                refusal: Refusal::Cut,
-                layer: Layer::Record,
-                record: self.records + 1,
-                column: 1,
-            });
+            return Err(self.fault(Refusal::Cut));
         };
-        let entry = self.take_record(&bytes[0..length])?;
+        let entry = self.take_record(&bytes[..length])?;
         Ok(Taken {
             entry,
             bytes: length + 1,
         })
     }
 
-    // The draft, once the deck's end was taken; before that a dead one.
+    // The draft, once the deck's end was taken; before that a dead one, since a draft comes either way.
     pub fn finish(self) -> Draft
         ensures { sheet result ≡ finished (progress_of self) }
     {
@@ -63,7 +58,7 @@ impl DeckReader {
     {
         let mut used = 0;
         while self.phase != Phase::Done {
-            // The entry is named, since the checker looks for its type among the locals.
+            // `_entry` is unused; without a local of its type the checker cannot resolve this `?`.
             let Taken {
                 entry: _entry,
                 bytes: length,

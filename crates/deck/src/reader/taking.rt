@@ -1,5 +1,5 @@
 // Taking the records of a deck.
-ghost use Rattle.std.specs.Prelude.{◌≡◌, suc, length};
+ghost use Rattle.std.specs.Prelude.{◌≡◌, suc, ◌+◌, length};
 ghost use Rattle.deck.specs.Progress.{blank, rows};
 ghost use Rattle.deck.specs.Readers.{progress_of, Answers};
 ghost use Rattle.deck.specs.Records.{whole, fields_tests};
@@ -25,7 +25,19 @@ impl DeckReader {
         }
     }
 
-    // Opens the draft.
+    // A fault of the next record as a whole, which is told at its first column.
+    pub(super) fn fault(&self, refusal: Refusal) -> Fault
+        ensures { result ≡ record { refusal = refusal; layer = Layer.Record; «record» = self.now.records + 1; column = 1 } }
+    {
+        Fault {
+            refusal,
+            layer: Layer::Record,
+            record: self.records + 1,
+            column: 1,
+        }
+    }
+
+    // Opens the draft. This and the next four each ask for a phase and a letter of their own, which the match has found.
     fn header(&mut self, source: &Record) -> Result<Entry, Fault>
         requires phase { self.old.phase ≡ Phase.Header }
         requires letter { source.now.letter ≡ 78 }
@@ -112,17 +124,11 @@ impl DeckReader {
     pub(super) fn take_record(&mut self, bytes: &[u8]) -> Result<Entry, Fault>
         ensures { Answers self.old self.new bytes.now (suc (length (rows (progress_of self.old)))) tests result }
     {
-        let number = self.records + 1;
         let [letter, fields @ ..] = bytes else {
-            return Err(Fault {
-                refusal: Refusal::Letter,
-                layer: Layer::Record,
-                record: number,
-                column: 1,
-            });
+            return Err(self.fault(Refusal::Letter));
         };
         let source = Record {
-            number,
+            number: self.records + 1,
             letter: *letter,
             fields,
         };

@@ -45,6 +45,7 @@ pub(super) fn check_outcome(
     assert_eq!(rt; netlist.lines() == 0, expected.is_err(), "{note}");
 }
 
+// A function, since a tuple takes no `From` of ours.
 pub(super) fn told(fault: &Fault) -> Told {
     (
         fault.refusal.number(),

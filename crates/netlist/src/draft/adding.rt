@@ -19,7 +19,8 @@ fn on_lines(numbers: &[u32], lines: usize) -> bool
 impl Draft {
     pub const MOST_DELAY: usize = 65_535;
 
-    // Adds the gate of the next line. A refused gate alters nothing.
+    // Adds the gate of the next line. A refused gate alters nothing. It takes the parts of a row, since two of its tests
+    // come before that of their number, and so before a row can be made.
     pub fn add_gate(&mut self, kind: Kind, delay: u32, lines: &[u32]) -> Result<(), Refusal>
         ensures answers { answer result ≡ gate_answer (sheet self.old) (record { kind = kind; delay = delay; reads = lines.now }) }
         ensures adds { answer result ≡ 0 → sheet self.new ≡ with_gate (sheet self.old) (record { kind = kind; delay = delay; reads = lines.now }) }
@@ -35,7 +36,7 @@ impl Draft {
             return Err(Refusal::Range);
         }
         let row = GateRow::new(kind, delay, lines)?;
-        self.draw(row);
+        self.push_row(row);
         Ok(())
     }
 
@@ -47,7 +48,7 @@ impl Draft {
     }
 
     // Fills the next row.
-    fn draw(&mut self, row: GateRow)
+    fn push_row(&mut self, row: GateRow)
         requires room { self.old.drawn < self.old.size.gates }
         requires lawful { legal (self.old.size.inputs + self.old.size.gates) row.gate ≡ true }
         ensures { sheet self.new ≡ with_gate (sheet self.old) row.gate }
@@ -69,12 +70,12 @@ impl Draft {
         if !(1..=self.lines()).contains(&(line as usize)) {
             return Err(Refusal::Range);
         }
-        self.name(line);
+        self.push_output(line);
         Ok(())
     }
 
     // Fills the next place of the outputs.
-    fn name(&mut self, line: u32)
+    fn push_output(&mut self, line: u32)
         requires room { self.old.named < self.old.size.outputs }
         requires gates_first { self.old.drawn ≡ self.old.size.gates }
         requires lawful { in_range 1 (self.old.size.inputs + self.old.size.gates) line ≡ true }

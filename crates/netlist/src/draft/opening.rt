@@ -32,7 +32,7 @@ impl Draft {
         }
     }
 
-    // Opens a draft; outside the limits it is a dead one.
+    // Opens a draft, which never fails; outside the limits it is a dead one.
     pub fn new(size: Size) -> Draft
         ensures opens { sheet result ≡ opened size.inputs size.gates size.outputs }
         ensures rows_empty { result.rows ≡ replicate 768 empty }

@@ -6,7 +6,7 @@ ghost use Rattle.netlist.specs.Searches.{marked, stepped};
 
 use arrayvec::ArrayVec;
 
-// The lines from the first to the last.
+// The lines from the first to the last; a `RangeInclusive` that was run through would contain none.
 #[derive(Clone, Copy)]
 pub(super) struct LineRange {
     pub(super) first: usize,

@@ -1,5 +1,4 @@
 use Rattle.std.proofs.Common.{◌≡◌, ℕ, suc, ◌+◌, ◌<◌, List, ◌∷◌, ◌++◌, length, get_or, take, drop, ap, ◌∙◌, subst, arith}
-use native.Mathlib.Nat.{sub-zero}
 use Rattle.std.proofs.lemmas.List.{length-take-le}
 use Rattle.deck.specs.Faults.{told}
 use Rattle.deck.specs.Outcomes.{Unended, Fails}
@@ -30,9 +29,6 @@ module _ (bytes : List ℕ) (n : ℕ) (within : n < length bytes) (ends : get_or
     one_more = took.one_more;
   }
 
-pub overflow_add-result : goal.overflow_add-result
-overflow_add-result c = omega (arith, few_records c.args.self.now)
-
 pub returns-in_err-entry : goal.returns-in_err-entry
 returns-in_err-entry c =
     let bytes = c.args.bytes.now in
@@ -41,11 +37,10 @@ returns-in_err-entry c =
     let p = progress_of c.args.self.now in
     let bad = c.in_err-entry.ensures in
     carried c.from_residual.result f _ _ c.from_residual.ensures.1
-    (fails_here bytes c.in-Some.length found.0 found.1 p (suc (length (rows p))) f found.2 (subst (λ k. Failed (take k bytes) (suc (length (rows p))) (tests (expected p) (length (take k bytes))) f) (sub-zero c.in-Some.length) bad.0), bad.1)
+    (fails_here bytes c.in-Some.length found.0 found.1 p (suc (length (rows p))) f found.2 bad.0, bad.1)
 
 pub returns : goal.returns
 returns c =
     let bytes = c.args.bytes.now in
     let found = c.in-Some.ensures in
-    took_here bytes c.in-Some.length found.0 found.1 _ _ _
-    (subst (λ k. Took c.args.self.now c.take_record.new.self (take k bytes) c.in_ok-entry.entry) (sub-zero c.in-Some.length) c.in_ok-entry.ensures)
+    took_here bytes c.in-Some.length found.0 found.1 _ _ _ c.in_ok-entry.ensures

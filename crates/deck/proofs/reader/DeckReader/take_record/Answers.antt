@@ -35,15 +35,15 @@ end_letter d e = ap letter_of (reader_expects_end d e)
 done_letter : (d : DeckReader) → d.phase ≡ Done → letter_of (expected (progress_of d)) ≡ out_of_order
 done_letter d e = ap (λ p. letter_of (expected (progress p (sheet d.draft)))) e
 
-pub overflow_add-number : goal.overflow_add-number
-overflow_add-number c = omega (arith, few_records c.args.self.now)
+pub overflow_add-source : goal.overflow_add-source
+overflow_add-source c = omega (arith, few_records c.args.self.now)
 
 pub returns-in_default : goal.returns-in_default
 returns-in_default c =
     let d = c.args.self.now in
     let none : length c.args.bytes.now < 1 = search rules in
     let empty : c.args.bytes.now ≡ [] = nil_from_length _ (omega arith) in
-    (wrong_letter (expected (progress_of d)) c.args.bytes.now _ _ _ (λ p. none_empty (expected (progress_of d)) (subst (λ r. Passes r (letter_of (expected (progress_of d)))) empty p)) (ap (λ n. record { number = 2; layer = 82; at = n; column = 1 }) (numbered d)), refl)
+    (wrong_letter (expected (progress_of d)) c.args.bytes.now _ _ _ (λ p. none_empty (expected (progress_of d)) (subst (λ r. Passes r (letter_of (expected (progress_of d)))) empty p)) (ap told c.fault.ensures ∙ ap (λ n. record { number = 2; layer = 82; at = n; column = 1 }) (numbered d)), refl)
 
 pub returns-in-Header-eq78 : goal.returns-in-Header-eq78
 returns-in-Header-eq78 c =
@@ -84,8 +84,8 @@ pub returns-in_default-2 : goal.returns-in_default-2
 returns-in_default-2 c =
     let d = c.args.self.now in
     let bytes = c.args.bytes.now in
-    let f = c.fault.result in
-    let is = ap told c.fault.ensures in
+    let f = c.fault-in_default-2.result in
+    let is = ap told c.fault-in_default-2.ensures in
     elim c.in_default-2.branch [
       | in_default-2-via-in-Header+in_default w ↦ (refused d bytes 78 _ f (header_letter d w.in_default-2.is-0) w.in_default-2.is-1.1 is, refl)
       | in_default-2-via-in-Inputs+in_default w ↦ (refused d bytes 73 _ f (input_letter d _ w.in_default-2.is-0) w.in_default-2.is-1.1 is, refl)

@@ -1,43 +1,38 @@
--- What a search has found so far; it serves the contracts of the search's own functions.
-use Rattle.std.specs.Prelude.{◌≡◌, ℕ, ◌+◌, ◌<◌, ◌≤◌, Bool, true, false, not, ◌⊎◌, [], ◌∷◌, ◌++◌, length, count_by, slice_index, slice_index_or, slice_set}
+-- What a search keeps while it runs; it serves the contracts of the search's own functions.
+use Rattle.std.specs.Prelude.{◌≡◌, ℕ, ◌+◌, ◌≤◌, Bool, true, false, not, ◌⊎◌, [], ◌∷◌, ◌++◌, length, count_by, Contains, slice_index_or, slice_set}
 use Rattle.netlist.specs.declared.draft.search.Search.{Search}
 use Rattle.netlist.specs.Gates.{Circuit, in_range}
-use Rattle.netlist.specs.Walks.{Reads, Walk}
-
--- the line that the search started from
-abbrev pub start : Search → ℕ
-start s = slice_index s.found.items 0
+use Rattle.netlist.specs.Walks.{Reads}
 
 abbrev pub seen : Search → ℕ → Bool
 seen s m = slice_index_or s.seen m false
 
+-- how many lines are not seen
+abbrev pub unseen : Search → ℕ
+unseen s = count_by not s.seen
+
+-- line m is still to be followed
+abbrev pub Waits : Search → ℕ → Type 0
+Waits s m = Contains s.waiting.items m
+
 -- the search with one more line marked
 abbrev pub marked : Search → ℕ → Search
-marked s m = record { seen = slice_set s.seen m true; found = record { items = s.found.items ++ m ∷ [] }; next = s.next }
+marked s m = record { seen = slice_set s.seen m true; waiting = record { items = s.waiting.items ++ m ∷ [] } }
 
--- the search that is about to follow the next line
-abbrev pub stepped : Search → Search
-stepped s = record { seen = s.seen; found = s.found; next = s.next + 1 }
-
--- line j is line n, or leads to it
-abbrev pub Upstream : Circuit → ℕ → ℕ → Type 0
-Upstream c n j = (j ≡ n) ⊎ Walk c j n
-
--- all that was found is upstream of the start, and what is seen was found and lies outside the sought range
-pub record Sound (c : Circuit) (first last : ℕ) (s : Search) : Type 0 where
+-- there is room for all lines that are not seen, and what is seen lies outside the sought range
+pub record Sound (first last : ℕ) (s : Search) : Type 0 where
   pub table : length s.seen ≡ 1025
-  pub some : 0 < length s.found.items
-  pub balance : length s.found.items + count_by not s.seen ≡ 1026
-  pub upstream : (i : ℕ) → i < length s.found.items → Upstream c (start s) (slice_index s.found.items i)
+  pub room : length s.waiting.items + unseen s ≤ 1026
   pub outside : (m : ℕ) → seen s m ≡ true → in_range first last m ≡ false
-  pub found : (m : ℕ) → seen s m ≡ true → (i : ℕ) × (i < length s.found.items) × (slice_index s.found.items i ≡ m)
 
--- nothing found or seen is lost from one search to another
-pub record Grows (s t : Search) : Type 0 where
-  pub count : length s.found.items ≤ length t.found.items
-  pub found : (i : ℕ) → i < length s.found.items → slice_index t.found.items i ≡ slice_index s.found.items i
+-- from one search to another nothing is lost, and the lines that came to be seen wait and are read by line n
+pub record Grows (c : Circuit) (n : ℕ) (s t : Search) : Type 0 where
   pub seen_stays : (m : ℕ) → seen s m ≡ true → seen t m ≡ true
-  pub next : t.next ≡ s.next
+  pub waits_stays : (m : ℕ) → Waits s m → Waits t m
+  pub new_waits : (m : ℕ) → seen t m ≡ true → (seen s m ≡ true) ⊎ Waits t m
+  pub new_read : (m : ℕ) → Waits t m → Waits s m ⊎ Reads c n m
+  pub moved : length t.waiting.items + unseen t ≡ length s.waiting.items + unseen s
+  pub fewer : unseen t ≤ unseen s
 
 -- each line that line n reads is seen
 abbrev pub Followed : Circuit → Search → ℕ → Type 0

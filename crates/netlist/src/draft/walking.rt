@@ -1,7 +1,7 @@
 // Walks through the gates of a draft.
 ghost use Rattle.std.specs.Prelude.{◌≡◌, true, false};
 ghost use Rattle.netlist.specs.Drafts.{sheet};
-ghost use Rattle.netlist.specs.Searches.{start, Upstream, Sound, Grows, Followed};
+ghost use Rattle.netlist.specs.Searches.{Sound, Grows, Followed};
 ghost use Rattle.netlist.specs.Walks.{reads, Leads};
 
 use super::Draft;
@@ -21,11 +21,10 @@ impl Draft {
 
     // Marks the lines that a line reads; true where one of them is among the sources.
     fn visit(&self, search: &mut Search, line: u32, sources: LineRange) -> bool
-        requires sound { Sound (sheet self.now).circuit sources.first sources.last search.old }
-        requires upstream { Upstream (sheet self.now).circuit (start search.old) line }
-        ensures leads { result ≡ true → Leads (sheet self.now).circuit sources.first sources.last (start search.old) }
-        ensures sound { result ≡ false → Sound (sheet self.now).circuit sources.first sources.last search.new }
-        ensures grows { result ≡ false → Grows search.old search.new }
+        requires { Sound sources.first sources.last search.old }
+        ensures leads { result ≡ true → Leads (sheet self.now).circuit sources.first sources.last line }
+        ensures sound { result ≡ false → Sound sources.first sources.last search.new }
+        ensures grows { result ≡ false → Grows (sheet self.now).circuit line search.old search.new }
         ensures followed { result ≡ false → Followed (sheet self.now).circuit search.new line }
     {
         for read in self.reads(line) {
@@ -46,7 +45,7 @@ impl Draft {
         ensures no { result ≡ false → Leads (sheet self.now).circuit sources.first sources.last to → ⊥ }
     {
         let mut search = Search::new(to);
-        while let Some(line) = search.follow() {
+        while let Some(line) = search.waiting.pop() {
             if self.visit(&mut search, line, sources) {
                 return true;
             }

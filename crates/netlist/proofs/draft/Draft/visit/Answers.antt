@@ -5,7 +5,8 @@ use Rattle.netlist.specs.Drafts.{sheet}
 use Rattle.netlist.specs.Walks.{reads, Reads}
 use Rattle.netlist.proofs.Ranges.{bounds}
 use Rattle.netlist.proofs.Reading.{read_bounds}
-use Rattle.netlist.proofs.Searching.{further, room, Visiting, visit_marked, visit_seen}
+use Rattle.netlist.specs.Walks.Walk.{step}
+use Rattle.netlist.proofs.Searching.{room, Visiting, visit_marked, visit_seen}
 use Rattle.netlist.proofs.draft.Draft.visit.Goals as goal
 use Rattle.netlist.proofs.draft.Draft.visit.Goals.{then-not-search-read, else-not-search-read}
 
@@ -21,7 +22,7 @@ returns-then-contains-clause-leads c =
     let d = c.args.self.now in
     let read = read_at d c.args.line c.loop-read.read-index _ c.reads-read-items.ensures c.loop-read-test.true in
     let inside = bounds c.args.sources.first c.args.sources.last _ (sym c.if-contains.ensures) in
-    λ _. record { from = _; not_before = inside.0; not_after = inside.1; walk = further (sheet d).circuit _ c.args.line _ c.requires.upstream read }
+    λ _. record { from = _; not_before = inside.0; not_after = inside.1; walk = step read }
 
 pub bounds-search-read : goal.bounds-search-read
 bounds-search-read c = on_table c.args.self.now c.args.line _ (read_at c.args.self.now c.args.line c.loop-read.read-index _ c.reads-read-items.ensures c.loop-read-test.true)
@@ -30,7 +31,7 @@ pub mark-requires : goal.mark-requires
 mark-requires c =
     let d = c.args.self.now in
     let fits = on_table d c.args.line _ (read_at d c.args.line c.loop-read.read-index _ c.reads-read-items.ensures c.loop-read-test.true) in
-    record { on_table = fits; room = room (sheet d).circuit c.args.sources.first c.args.sources.last c.loop-read.search c.loop-read.invariant.sound _ fits c.if-not-search-read.true }
+    record { on_table = fits; room = room (sheet d).circuit c.args.sources.first c.args.sources.last c.args.line c.loop-read.search c.loop-read.invariant.sound _ fits c.if-not-search-read.true }
 
 pub loop-read-preserved : goal.loop-read-preserved
 loop-read-preserved c =
@@ -41,6 +42,6 @@ loop-read-preserved c =
     let at : get_or (reads (sheet d).circuit c.args.line) i 0 ≡ m = ap (λ l. get_or l i 0) (sym c.reads-read-items.ensures) in
     let Then : Search → Type 0 = Visiting (sheet d).circuit c.args.sources.first c.args.sources.last c.args.line c.args.search.now (i + 1) in
     elim c.if-not-search-read.branch [
-      | then-not-search-read w ↦ subst Then (sym (w.search-is ∙ w.mark.ensures)) (visit_marked (sheet d).circuit c.args.sources.first c.args.sources.last c.args.line c.args.search.now c.loop-read.search i m at c.loop-read.invariant c.requires.sound.some (on_table d c.args.line m read) w.if-not-search-read.true (sym c.if-contains.ensures) (further (sheet d).circuit _ c.args.line m c.requires.upstream read))
+      | then-not-search-read w ↦ subst Then (sym (w.search-is ∙ w.mark.ensures)) (visit_marked (sheet d).circuit c.args.sources.first c.args.sources.last c.args.line c.args.search.now c.loop-read.search i m at c.loop-read.invariant read (on_table d c.args.line m read) w.if-not-search-read.true (sym c.if-contains.ensures))
       | else-not-search-read w ↦ subst Then (sym w.search-is) (visit_seen (sheet d).circuit c.args.sources.first c.args.sources.last c.args.line c.args.search.now c.loop-read.search i m at c.loop-read.invariant w.if-not-search-read.false)
     ]

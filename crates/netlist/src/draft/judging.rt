@@ -28,8 +28,8 @@ impl Draft {
         0 < self.size.gates && self.drawn == self.size.gates && self.named == self.size.outputs
     }
 
-    // The lowest gate line, of those drawn so far, that no input reaches. A loop, since the closure of a `find` would need
-    // the clauses of `leads` again.
+    // The lowest gate line, of those drawn so far, that no input reaches. A loop, since the closure of a `find` would
+    // need the clauses of `leads` again.
     pub fn unreached(&self) -> Option<u32>
         ensures { FreeGate (sheet self.now).circuit result }
     {

@@ -4,7 +4,8 @@ use Rattle.std.specs.List.{flat_map, HoldsAt}
 use Rattle.std.proofs.lemmas.List.{drop-drop, append_assoc}
 use Rattle.std.proofs.lemmas.Bool.{and_from, eqb-true, or_cases, false≢true}
 use Rattle.std.proofs.lemmas.Bool.Decides.{Decides-by_or, Decides-like, Decides-eqb}
-use Rattle.netlist.specs.Gates.{in_range, on_lines}
+use Rattle.std.specs.Int.{is_in_range}
+use Rattle.netlist.specs.Gates.{on_lines}
 use Rattle.columns.specs.Spelling.{spelled}
 use Rattle.deck.specs.Tests.{has}
 
@@ -36,6 +37,6 @@ gate_lengths n e =
     (or_cases (eqb (suc n) 18) (has (suc n) (22 ∷ 26 ∷ 30 ∷ [])) e)
 
 -- each of the numbers is a line
-pub on_lines_of : (lines : ℕ) (ns : List ℕ) → ((i : ℕ) → i < length ns → in_range 1 lines (get_or ns i 0) ≡ true) → on_lines lines ns ≡ true
+pub on_lines_of : (lines : ℕ) (ns : List ℕ) → ((i : ℕ) → i < length ns → is_in_range 1 lines (get_or ns i 0) ≡ true) → on_lines lines ns ≡ true
 on_lines_of lines [] each = refl
 on_lines_of lines (n ∷ ns) each = and_from _ _ (each 0 (omega arith)) (on_lines_of lines ns (λ i below. each (suc i) (omega arith)))

@@ -2,8 +2,9 @@
 use Rattle.std.proofs.Common.{◌≡◌, ℕ, zero, suc, ◌+◌, ◌^◌, ◌<◌, ◌≤◌, true, ◌&&◌, eqb, ltb, List, [], ◌∷◌, ◌++◌, length, sym, refl, subst, append_assoc, append-nil, arith, length-append}
 use Rattle.std.proofs.lemmas.Bool.{lt-ltb, le-ltb, eqb-true, eq-eqb, and_parts}
 use Rattle.netlist.specs.Drafts.{Sheet, within_limits, with_gate, with_output, dead}
-use Rattle.netlist.specs.Gates.{Gate, legal, on_lines, in_range}
+use Rattle.netlist.specs.Gates.{Gate, legal, on_lines}
 use Rattle.std.specs.List.{list_all}
+use Rattle.std.specs.Int.{is_in_range}
 use Rattle.netlist.proofs.Ranges.{bounds}
 use Rattle.deck.specs.Rows.{Row, header, input, gate, output, end, input_rows, gate_rows, output_rows}
 use Rattle.deck.specs.Progress.{Progress, blank, going, over, rows, Begun, Legal, Expected, header_next, input_next, gate_next, output_next, end_next, nothing_next, expected}
@@ -13,7 +14,7 @@ pub data Follows : Expected → Row → Type 0 where
   a_header : {i g o : ℕ} → within_limits i g o ≡ true → Follows header_next (header i g o)
   an_input : {n : ℕ} → n < 10 ^ 4 → Follows (input_next n) (input n)
   a_gate : {n m : ℕ} {g : Gate} → n < 10 ^ 4 → m < 10 ^ 4 → legal m g ≡ true → Follows (gate_next n m) (gate n g)
-  an_output : {m n : ℕ} → m < 10 ^ 4 → in_range 1 m n ≡ true → Follows (output_next m) (output n)
+  an_output : {m n : ℕ} → m < 10 ^ 4 → is_in_range 1 m n ≡ true → Follows (output_next m) (output n)
   an_end : Follows end_next end
 
 pub nothing_follows : (r : Row) → Follows nothing_next r → ⊥
@@ -57,8 +58,8 @@ pub record Limited (i g o : ℕ) : Type 0 where
 
 pub limited : (i g o : ℕ) → within_limits i g o ≡ true → Limited i g o
 limited i g o e =
-    let last = and_parts (in_range 1 256 i && in_range 1 768 g) (in_range 1 256 o) e in
-    let front = and_parts (in_range 1 256 i) (in_range 1 768 g) last.0 in
+    let last = and_parts (is_in_range 1 256 i && is_in_range 1 768 g) (is_in_range 1 256 o) e in
+    let front = and_parts (is_in_range 1 256 i) (is_in_range 1 768 g) last.0 in
     record { inputs = bounds 1 256 i front.0; gates = bounds 1 768 g front.1; outputs = bounds 1 256 o last.1 }
 
 module _ (i g o : ℕ) (limits : Limited i g o) where
@@ -84,14 +85,14 @@ module _ (i g o : ℕ) (limits : Limited i g o) where
         rw (← append_assoc gs (a ∷ []) hs) (gates_lead told (suc n) (gs ++ (a ∷ [])) hs (omega arith) (λ z. start) (omega arith) parts.1),
       )
 
-  output_follows : (told : ℕ) (gs : List Gate) (ns : List ℕ) (n : ℕ) → i ≤ told → length gs ≡ g → length ns < o → in_range 1 (i + g) n ≡ true → Follows (expected (draft i g o told gs ns)) (output n)
+  output_follows : (told : ℕ) (gs : List Gate) (ns : List ℕ) (n : ℕ) → i ≤ told → length gs ≡ g → length ns < o → is_in_range 1 (i + g) n ≡ true → Follows (expected (draft i g o told gs ns)) (output n)
   output_follows told gs ns n first all few fine =
       rw (le-ltb told i first, le-ltb (length gs) g (omega arith), eq-eqb (length gs) g all, lt-ltb (length ns) o few) (an_output {m = i + g} (omega arith) fine)
 
   outputs_lead : (told : ℕ) (gs : List Gate) (ns ms : List ℕ) → (0 < length ms → (i ≤ told) × (length gs ≡ g)) → length ns + length ms ≤ o → on_lines (i + g) ms ≡ true → Leads (draft i g o told gs ns) (output_rows ms) (draft i g o told gs (ns ++ ms))
   outputs_lead told gs ns [] before few fine = rw append-nil
   outputs_lead told gs ns (m ∷ ms) before few fine =
-      let parts = and_parts (in_range 1 (i + g) m) _ fine in
+      let parts = and_parts (is_in_range 1 (i + g) m) _ fine in
       let start : (i ≤ told) × (length gs ≡ g) = before (omega arith) in
       let longer = length-append ns (m ∷ []) in (
         output_follows told gs ns m start.0 start.1 (omega arith) parts.0,

@@ -3,10 +3,12 @@ use Rattle.std.proofs.Common.{◌≡◌, ℕ, zero, suc, ◌+◌, ◌*◌, ◌�
 use Rattle.std.specs.List.{AllByRecursion}
 use Rattle.std.proofs.ByRecursion.{All-append}
 use Rattle.std.proofs.lemmas.Bool.{eqb-true}
+use Rattle.std.proofs.lemmas.List.Sums.{AllPass-from_list_all}
+use Rattle.std.specs.Int.{is_in_range}
 use Rattle.netlist.specs.declared.kind.Kind.{Kind}
 use Rattle.netlist.specs.declared.kind.Kind.TheVariants.{Buf, Not, And, Or, Xor, Nand, Nor, Xnor}
-use Rattle.netlist.specs.Gates.{Gate, fits, in_range}
-use Rattle.netlist.proofs.Ranges.{bounds, passes_at}
+use Rattle.netlist.specs.Gates.{Gate, fits}
+use Rattle.netlist.proofs.Ranges.{bounds}
 use Rattle.deck.specs.Progress.{Expected, gate_next}
 use Rattle.deck.specs.Records.{ReadsShown}
 use Rattle.deck.specs.Rows.{Row, header, gate, text}
@@ -52,7 +54,7 @@ gate_passes n m g parts a =
     let few = count_fits g.kind _ parts.fitting in
     let k = reads_count (length t) in
     let count : k ≡ length g.reads = omega arith in
-    let shown : ReadsShown t m k g.reads = λ i below. let line = bounds 1 m (get_or g.reads i 0) (passes_at (in_range 1 m) g.reads i 0 parts.on (omega arith)) in (a.0.each i (omega arith), line.0, line.1) in
+    let shown : ReadsShown t m k g.reads = λ i below. let line = bounds 1 m (get_or g.reads i 0) (AllPass-from_list_all (is_in_range 1 m) g.reads parts.on i 0 (omega arith)) in (a.0.each i (omega arith), line.0, line.1) in
     let last = kind_takes k ∷ [] in
     let from_reads = reads_tests m k ++ last in
     let from_delay = number_tests 10 5 1 65535 ++ from_reads in (

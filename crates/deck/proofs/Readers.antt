@@ -2,9 +2,10 @@
 use Rattle.std.proofs.Common.{◌≡◌, ℕ, suc, ◌+◌, ◌<◌, ◌≤◌, true, false, eqb, ltb, ◌⊎◌, List, [], ◌∷◌, ◌++◌, length, Result, sym, refl, ap, ◌∙◌, subst, ⊎_elim, add-one, arith}
 use Rattle.std.proofs.lemmas.List.{length-append}
 use Rattle.std.proofs.lemmas.Bool.{and_from, and_cases, both_ways, lt-ltb, ltb-true, ltb-false, eq-eqb}
+use Rattle.std.specs.Int.{is_in_range}
 use Rattle.netlist.specs.declared.draft.Draft.{Draft}
 use Rattle.netlist.specs.Drafts.{Sheet, sheet, lines, takes_gate, takes_output, with_gate, with_output, gate_answer, output_answer}
-use Rattle.netlist.specs.Gates.{Gate, legal, in_range}
+use Rattle.netlist.specs.Gates.{Gate, legal}
 use Rattle.netlist.specs.Refusals.{answer}
 use Rattle.netlist.specs.declared.refusal.Refusal.{Refusal}
 use Rattle.netlist.proofs.Answered.{gate_taken, output_taken}
@@ -207,7 +208,7 @@ module _ (d : DeckReader) (e : d.phase ≡ Outputs) where
         ⊎_elim (λ more. subst At (sym more.1) (next_output (sym more.0))) (λ last. subst At (sym last.1) (last_output (sym last.0))) way
 
   -- the draft takes an output on a line
-  pub output_added : (n : ℕ) (t : Draft) (r : Result (Unit {0}) Refusal) → answer r ≡ output_answer (sheet d.draft) n → (answer r ≡ 0 → sheet t ≡ with_output (sheet d.draft) n) → in_range 1 (lines (sheet d.draft)) n ≡ true → sheet t ≡ with_output (sheet d.draft) n
+  pub output_added : (n : ℕ) (t : Draft) (r : Result (Unit {0}) Refusal) → answer r ≡ output_answer (sheet d.draft) n → (answer r ≡ 0 → sheet t ≡ with_output (sheet d.draft) n) → is_in_range 1 (lines (sheet d.draft)) n ≡ true → sheet t ≡ with_output (sheet d.draft) n
   output_added n t r answers adds on = adds (answers ∙ output_taken (sheet d.draft) n output_is_next on)
 
 module _ (d : DeckReader) (e : d.phase ≡ End) where

@@ -4,11 +4,12 @@ use Rattle.std.specs.List.{flat_map, AllByRecursion}
 use Rattle.std.proofs.lemmas.List.{take_at, drop_at, ext_get_or}
 use Rattle.std.proofs.ByRecursion.{All-append}
 use Rattle.std.proofs.lemmas.Bool.{and_parts}
+use Rattle.std.specs.Int.{is_in_range}
 use Rattle.columns.specs.Spelling.{spelled}
 use Rattle.columns.proofs.Spelled.{length-spelled, spelled_no_newline}
 use Rattle.netlist.specs.declared.kind.Kind.{Kind}
 use Rattle.netlist.specs.declared.kind.Kind.TheVariants.{Buf, Not, And, Or, Xor, Nand, Nor, Xnor}
-use Rattle.netlist.specs.Gates.{Gate, on_lines, in_range, legal, fits, delay_fits}
+use Rattle.netlist.specs.Gates.{Gate, on_lines, legal, fits, delay_fits}
 use Rattle.netlist.proofs.Ranges.{bounds}
 use Rattle.deck.specs.Rows.{Row, header, input, gate, output, end, kind_text, text}
 use Rattle.deck.specs.Tests.{columns, Shows}
@@ -82,7 +83,7 @@ kind_one k l e = sym (kind_facts k).2 ∙ ap (λ t. kind_of_sum (sum t)) e ∙ (
 fours_on_lines : (m : ℕ) (ls : List ℕ) → m < 10 ^ 4 → on_lines m ls ≡ true → Fours ls
 fours_on_lines m [] small fine = tt
 fours_on_lines m (l ∷ ls) small fine =
-    let parts = and_parts (in_range 1 m l) (on_lines m ls) fine in
+    let parts = and_parts (is_in_range 1 m l) (on_lines m ls) fine in
     (omega (arith, bounds 1 m l parts.0), fours_on_lines m ls small parts.1)
 
 -- what a legal gate of a netlist with so many lines has

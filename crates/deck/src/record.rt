@@ -1,7 +1,8 @@
 // A record of a deck taken apart: its letter, and the fields that stand in its columns.
 ghost use Rattle.std.specs.Prelude.{◌≡◌, ◌+◌, ◌*◌, ◌≤◌, true, false, length, MatchResult};
+ghost use Rattle.std.specs.Int.{is_in_range};
 ghost use Rattle.netlist.specs.Drafts.{within_limits};
-ghost use Rattle.netlist.specs.Gates.{in_range, legal};
+ghost use Rattle.netlist.specs.Gates.{legal};
 ghost use Rattle.netlist.specs.Rows.{gate_of};
 ghost use Rattle.deck.specs.Progress.{header_next, input_next, gate_next, output_next, end_next};
 ghost use Rattle.deck.specs.Records.{whole, Spells, Failed, Refuted, ReadsShown, fields_tests};
@@ -202,7 +203,7 @@ impl<'a> Record<'a> {
 
     // O: the line that an output names.
     pub(crate) fn output(&self, lines: usize) -> Result<u32, Fault>
-        ensures { MatchResult result (λ n. Spells self.now (output n) × (in_range 1 lines n ≡ true)) (λ f. Failed (whole self.now) self.now.number (fields_tests (output_next lines) (length (whole self.now))) f) }
+        ensures { MatchResult result (λ n. Spells self.now (output n) × (is_in_range 1 lines n ≡ true)) (λ f. Failed (whole self.now) self.now.number (fields_tests (output_next lines) (length (whole self.now))) f) }
     {
         self.length(&[5])?;
         let line = self.number(LINE, lines as u64)?;

@@ -23,8 +23,8 @@ enum Stop {
     Io(#[from] io::Error),
 }
 
-// Takes the records of a deck one by one, and answers the draft. Records and bytes are counted here, since both counts are
-// printed.
+// Takes the records of a deck one by one, and answers the draft. Records and bytes are counted here, since both counts
+// are printed.
 fn take_records(rt: &impl Print, bytes: &[u8]) -> Result<Draft, Stop> {
     let mut reader = DeckReader::new();
     let mut used = 0;

@@ -1,9 +1,10 @@
 -- No refusal has the number 0, so an answer of 0 says that nothing was refused.
 use Rattle.std.proofs.Common.{◌≡◌, ℕ, ◌<◌, Bool, true, false, cond, ◌&&◌, length, refl, ◌∙◌, arith}
 use Rattle.std.proofs.lemmas.Bool.{and_parts, cond-true}
+use Rattle.std.specs.Int.{is_in_range}
 use Rattle.netlist.specs.declared.refusal.Refusal.{Refusal}
 use Rattle.netlist.specs.Drafts.{Sheet, gate_answer, output_answer, takes_gate, takes_output, lines}
-use Rattle.netlist.specs.Gates.{Gate, legal, fits, delay_fits, in_range, on_lines}
+use Rattle.netlist.specs.Gates.{Gate, legal, fits, delay_fits, on_lines}
 use Rattle.netlist.specs.Refusals.{number}
 
 pub number_some : (r : Refusal) → 0 < number r
@@ -43,5 +44,5 @@ gate_taken s g next fine =
     let front = and_parts (delay_fits g.delay) (on_lines (lines s) g.reads) last.0 in
     cond-true (takes_gate s) _ 2 next ∙ cond-true (delay_fits g.delay) _ 5 front.0 ∙ cond-true (on_lines (lines s) g.reads) _ 5 front.1 ∙ cond-true (fits g.kind (length g.reads)) 0 7 last.1
 
-pub output_taken : (s : Sheet) (n : ℕ) → takes_output s ≡ true → in_range 1 (lines s) n ≡ true → output_answer s n ≡ 0
-output_taken s n next fine = cond-true (takes_output s) _ 2 next ∙ cond-true (in_range 1 (lines s) n) 0 5 fine
+pub output_taken : (s : Sheet) (n : ℕ) → takes_output s ≡ true → is_in_range 1 (lines s) n ≡ true → output_answer s n ≡ 0
+output_taken s n next fine = cond-true (takes_output s) _ 2 next ∙ cond-true (is_in_range 1 (lines s) n) 0 5 fine

@@ -1,12 +1,14 @@
 -- The lines that a line reads.
 use Rattle.std.proofs.Common.{◌≡◌, ℕ, suc, ◌+◌, ◌-◌, ◌<◌, ◌≤◌, true, ◌&&◌, ltb, ◌⊎◌, [], length, get_or, sym, ap, ◌∙◌, ⊎_elim, arith}
 use Rattle.std.proofs.lemmas.List.{get_or_past}
+use Rattle.std.proofs.lemmas.List.Sums.{AllPass-from_list_all}
 use Rattle.std.proofs.lemmas.Bool.{lt-ltb, le-ltb, cond-true, cond-false, cases_lt, and_parts}
 use Rattle.std.specs.List.{list_all}
-use Rattle.netlist.specs.Gates.{Gate, Circuit, legal, in_range, on_lines, delay_fits}
+use Rattle.std.specs.Int.{is_in_range}
+use Rattle.netlist.specs.Gates.{Gate, Circuit, legal, on_lines, delay_fits}
 use Rattle.netlist.specs.Walks.{reads, no_gate, Reads, Walk, Looped}
 use Rattle.netlist.specs.Walks.Walk.{step, on}
-use Rattle.netlist.proofs.Ranges.{bounds, passes_at}
+use Rattle.netlist.proofs.Ranges.{bounds}
 
 pub reads_at_input : (c : Circuit) (n : ℕ) → n ≤ c.inputs → reads c n ≡ []
 reads_at_input c n below = cond-false (ltb c.inputs n) _ _ (le-ltb c.inputs n below)
@@ -42,9 +44,9 @@ reads_on_lines c lines n all =
   where
     at_gate : (k : ℕ) → on_lines lines (get_or c.gates k no_gate).reads ≡ true
     at_gate k =
-        ⊎_elim (λ within. let g = get_or c.gates k no_gate in (and_parts (delay_fits g.delay) _ (and_parts (delay_fits g.delay && on_lines lines g.reads) _ (passes_at (legal lines) c.gates k no_gate all within)).0).1)
+        ⊎_elim (λ within. let g = get_or c.gates k no_gate in (and_parts (delay_fits g.delay) _ (and_parts (delay_fits g.delay && on_lines lines g.reads) _ (AllPass-from_list_all (legal lines) c.gates all k no_gate within)).0).1)
         (λ past. ap (λ (g : Gate). on_lines lines g.reads) (get_or_past c.gates k no_gate past)) (cases_lt k (length c.gates))
 
 pub read_bounds : (c : Circuit) (lines n m : ℕ) → list_all (legal lines) c.gates ≡ true → Reads c n m → (1 ≤ m) × (m ≤ lines)
 read_bounds c lines n m all read =
-    bounds 1 lines m (ap (in_range 1 lines) (sym read.is) ∙ passes_at (in_range 1 lines) (reads c n) read.place 0 (reads_on_lines c lines n all) read.within)
+    bounds 1 lines m (ap (is_in_range 1 lines) (sym read.is) ∙ AllPass-from_list_all (is_in_range 1 lines) (reads c n) (reads_on_lines c lines n all) read.place 0 read.within)

@@ -1,23 +1,17 @@
 -- A search stays sound as it marks lines, and what it has followed to the end leaves out no walk.
 use Rattle.std.proofs.Common.{◌≡◌, ℕ, ◌+◌, ◌<◌, Bool, true, false, cond, not, ◌⊎◌, List, [], ◌∷◌, ◌++◌, length, get_or, set, replicate, count_by, sym, refl, ap, ◌∙◌, subst, inl, inr, ⊎_elim, arith, length-set, below_more, Contains}
 use Rattle.std.proofs.lemmas.List.{length-append, length-replicate, get_or_past, get_or-replicate, get_or-set_same, get_or-set_other}
-use Rattle.std.proofs.lemmas.List.Elements.{Contains-append_left, Contains-append_right, Contains-append_cases}
+use Rattle.std.proofs.lemmas.List.Elements.{Contains-append_left, Contains-push, Contains-push_cases}
 use Rattle.std.proofs.lemmas.List.Folds.{sum_by-replicate}
 use Rattle.std.proofs.lemmas.List.Sums.{sum_by-set}
 use Rattle.std.proofs.lemmas.Bool.{cases_eq, cases_lt, both_ways}
+use Rattle.std.specs.Int.{is_in_range}
 use Rattle.netlist.specs.declared.draft.search.Search.{Search}
-use Rattle.netlist.specs.Gates.{Circuit, in_range}
+use Rattle.netlist.specs.Gates.{Circuit}
 use Rattle.netlist.specs.Searches.{seen, unseen, marked, Waits, Sound, Grows, Followed}
 use Rattle.netlist.specs.Walks.{reads, Reads, Walk, Leads}
 use Rattle.netlist.proofs.Ranges.{inside}
 use Rattle.netlist.specs.Walks.Walk.{step, on}
-
--- a list of one holds just that one
-alone : (n m : ℕ) → Contains (n ∷ []) m → m ≡ n
-alone n m (k, below, is) = let first : k ≡ 0 = omega arith in sym is ∙ ap (λ j. get_or (n ∷ []) j m) first
-
-itself : (n : ℕ) → Contains (n ∷ []) n
-itself n = (0, omega arith, refl)
 
 one_less : (marks : List Bool) (m : ℕ) → m < length marks → get_or marks m false ≡ false → count_by not (set marks m true) + 1 ≡ count_by not marks
 one_less marks m within off =
@@ -55,17 +49,17 @@ module _ (c : Circuit) (first last n : ℕ) (s : Search) (ok : Sound first last 
   mark_grows read = record {
     seen_stays = λ k e. ⊎_elim (λ same. subst (λ j. seen (marked s m) j ≡ true) (sym same) (get_or-set_same s.seen m true false on_table)) (λ other. get_or-set_other s.seen m k true false other ∙ e) (cases_eq k m);
     waits_stays = λ k w. Contains-append_left s.waiting.items (m ∷ []) k w;
-    new_waits = λ k e. ⊎_elim (λ same. inr (Contains-append_right s.waiting.items (m ∷ []) k (subst (Contains (m ∷ [])) (sym same) (itself m)))) (λ other. inl (seen_before k other e)) (cases_eq k m);
-    new_read = λ k w. ⊎_elim inl (λ new. inr (subst (Reads c n) (sym (alone m k new)) read)) (Contains-append_cases s.waiting.items (m ∷ []) k w);
+    new_waits = λ k e. ⊎_elim (λ same. inr (subst (Waits (marked s m)) (sym same) (Contains-push s.waiting.items m))) (λ other. inl (seen_before k other e)) (cases_eq k m);
+    new_read = λ k w. ⊎_elim inl (λ is. inr (subst (Reads c n) is read)) (Contains-push_cases s.waiting.items m k w);
     moved = omega (arith, one_more, fewer_by_one);
     fewer = omega (arith, fewer_by_one);
   }
 
-  pub mark_sound : in_range first last m ≡ false → Sound first last (marked s m)
+  pub mark_sound : is_in_range first last m ≡ false → Sound first last (marked s m)
   mark_sound out = record {
     table = length-set s.seen m true ∙ ok.table;
     room = omega (arith, one_more, fewer_by_one, ok.room);
-    outside = λ k e. ⊎_elim (λ same. ap (in_range first last) same ∙ out) (λ other. ok.outside k (seen_before k other e)) (cases_eq k m);
+    outside = λ k e. ⊎_elim (λ same. ap (is_in_range first last) same ∙ out) (λ other. ok.outside k (seen_before k other e)) (cases_eq k m);
   }
 
 -- a visit of line n, begun at the search s₀, has marked the lines that n reads below place i
@@ -78,7 +72,7 @@ module _ (c : Circuit) (first last n : ℕ) (s₀ s : Search) (i m : ℕ) (at : 
   pub visit_seen : seen s m ≡ true → Visiting c first last n s₀ (i + 1) s
   visit_seen here = record { sound = so_far.sound; grown = so_far.grown; marked = below_more _ i so_far.marked (ap (seen s) at ∙ here) }
 
-  pub visit_marked : Reads c n m → m < 1025 → seen s m ≡ false → in_range first last m ≡ false → Visiting c first last n s₀ (i + 1) (marked s m)
+  pub visit_marked : Reads c n m → m < 1025 → seen s m ≡ false → is_in_range first last m ≡ false → Visiting c first last n s₀ (i + 1) (marked s m)
   visit_marked read fits fresh out =
       let ok = so_far.sound in
       let grown = mark_grows c first last n s ok m fits fresh read in
@@ -115,8 +109,8 @@ begins c first last n s clear waits = record {
     room = omega (arith, ap length waits, ap (count_by not) clear ∙ sum_by-replicate (λ b. cond (not b) 1 0) 1025 false);
     outside = λ m e. absurd (unmarked m e);
   };
-  upstream = λ m w. inl (alone n m (subst (λ l. Contains l m) waits w));
-  done = λ m some. ⊎_elim (λ same. inl (subst (λ l. Contains l m) (sym waits) (subst (Contains (n ∷ [])) (sym same) (itself n)))) (λ e. absurd (unmarked m e)) some;
+  upstream = λ m w. ⊎_elim (λ none. absurd (omega (arith, none.1))) (λ is. inl (sym is)) (Contains-push_cases [] n m (subst (λ l. Contains l m) waits w));
+  done = λ m some. ⊎_elim (λ same. inl (subst (λ l. Contains l m) (sym waits) (subst (Contains (n ∷ [])) (sym same) (Contains-push [] n)))) (λ e. absurd (unmarked m e)) some;
 }
   where
     off : (m : ℕ) → get_or (replicate 1025 false) m false ≡ false
@@ -131,7 +125,7 @@ module _ (c : Circuit) (first last n : ℕ) (s p : Search) (line : ℕ) (so_far 
   waited m w = subst (λ l. Contains l m) (sym taken) (Contains-append_left p.waiting.items (line ∷ []) m w)
 
   pub next_upstream : Upstream c n line
-  next_upstream = so_far.upstream line (subst (λ l. Contains l line) (sym taken) (Contains-append_right p.waiting.items (line ∷ []) line (itself line)))
+  next_upstream = so_far.upstream line (subst (λ l. Contains l line) (sym taken) (Contains-push p.waiting.items line))
 
   pub next_sound : Sound first last p
   next_sound = record {
@@ -151,7 +145,7 @@ module _ (c : Circuit) (first last n : ℕ) (s p : Search) (line : ℕ) (so_far 
       stays m e = grown.seen_stays m (ap (λ l. get_or l m false) same ∙ e)
 
       still : (m : ℕ) → Waits s m → Waits t m ⊎ Followed c t m
-      still m w = ⊎_elim (λ old. inl (grown.waits_stays m old)) (λ new. inr (subst (Followed c t) (sym (alone line m new)) followed)) (Contains-append_cases p.waiting.items (line ∷ []) m (subst (λ l. Contains l m) taken w))
+      still m w = ⊎_elim (λ old. inl (grown.waits_stays m old)) (λ is. inr (subst (Followed c t) is followed)) (Contains-push_cases p.waiting.items line m (subst (λ l. Contains l m) taken w))
 
       waiting_or_followed : (m : ℕ) → Waits s m ⊎ Followed c s m → Waits t m ⊎ Followed c t m
       waiting_or_followed m was = ⊎_elim (still m) (λ f. inr (λ k read. stays k (f k read))) was

@@ -1,7 +1,9 @@
 -- A draft as its reader sees it, and what opening and additions answer.
-use Rattle.std.specs.Prelude.{ℕ, ◌+◌, Bool, cond, ◌&&◌, List, [], ◌∷◌, ◌++◌, length, ◌==◌, nat_lt}
+use Rattle.std.specs.Prelude.{◌≡◌, ℕ, ◌+◌, Bool, cond, ◌&&◌, List, [], ◌∷◌, ◌++◌, length, replicate, ◌==◌, nat_lt}
+use Rattle.std.specs.Int.{is_in_range}
 use Rattle.netlist.specs.declared.draft.Draft.{Draft}
-use Rattle.netlist.specs.Gates.{Gate, Circuit, nothing, in_range, fits, delay_fits, on_lines}
+use Rattle.netlist.specs.GateRow.{empty}
+use Rattle.netlist.specs.Gates.{Gate, Circuit, nothing, fits, delay_fits, on_lines}
 use Rattle.netlist.specs.Rows.{circuit_of}
 
 -- how many gates and outputs a draft was opened for, and what stands in it so far
@@ -19,7 +21,7 @@ sheet d = record {
 
 -- 1 to 256 inputs, 1 to 768 gates, 1 to 256 outputs
 abbrev pub within_limits : ℕ → ℕ → ℕ → Bool
-within_limits i g o = in_range 1 256 i && in_range 1 768 g && in_range 1 256 o
+within_limits i g o = is_in_range 1 256 i && is_in_range 1 768 g && is_in_range 1 256 o
 
 abbrev pub limits_answer : ℕ → ℕ → ℕ → ℕ
 limits_answer i g o = cond (within_limits i g o) 0 5
@@ -36,6 +38,10 @@ opened i g o =
 -- the lines that its gates and outputs may name, those of gates still to come too
 abbrev pub lines : Sheet → ℕ
 lines s = s.circuit.inputs + s.gates
+
+-- no gate has filled any of its 768 rows
+abbrev pub NoRowFilled : Draft → Type 0
+NoRowFilled d = d.rows ≡ replicate 768 empty
 
 -- a test, and the number of the refusal where it fails
 pub record Test : Type 0 where
@@ -61,7 +67,7 @@ gate_answer s g =
 
 abbrev pub output_answer : Sheet → ℕ → ℕ
 output_answer s n =
-    first_failed (record { number = 2; passes = takes_output s } ∷ record { number = 5; passes = in_range 1 (lines s) n } ∷ [])
+    first_failed (record { number = 2; passes = takes_output s } ∷ record { number = 5; passes = is_in_range 1 (lines s) n } ∷ [])
 
 -- the sheet with one gate, or one output, more
 abbrev pub with_gate : Sheet → Gate → Sheet

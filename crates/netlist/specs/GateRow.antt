@@ -1,8 +1,8 @@
 -- What a row of the table of gates shows, and how it keeps the lines that its gate reads.
-use Rattle.std.specs.Prelude.{◌≡◌, ℕ, ◌-◌, ◌≤◌, Bool, false, List, [], ◌++◌, length, take, drop, replicate}
+use Rattle.std.specs.Prelude.{◌≡◌, ℕ, ◌-◌, ◌≤◌, Bool, false, List, ◌++◌, length, take, drop, replicate}
 use Rattle.std.proofs.lemmas.List.{take-append-drop, length-take-le}
-use Rattle.netlist.specs.declared.kind.Kind.{Kind}
 use Rattle.netlist.specs.Gates.{Gate}
+use Rattle.netlist.specs.Walks.{no_gate}
 
 -- a gate, and whether its line is marked as looped
 pub record MarkedGate : Type 0 where
@@ -11,7 +11,7 @@ pub record MarkedGate : Type 0 where
 
 -- a row that no gate has filled
 abbrev pub empty : MarkedGate
-empty = record { gate = record { kind = Kind.Buf; delay = 0; reads = [] }; looped = false }
+empty = record { gate = no_gate; looped = false }
 
 -- so many lines stand in the first of four places, and 0 in the others
 pub record IsPadded (places : List ℕ) (count : ℕ) : Type 0 where

@@ -1,6 +1,7 @@
 -- Gates and circuits as the subject has them, apart from how they are stored.
-use Rattle.std.specs.Prelude.{ℕ, Bool, ◌&&◌, List, [], length, codes, ◌==◌, nat_le}
+use Rattle.std.specs.Prelude.{ℕ, Bool, ◌&&◌, List, [], length, codes, ◌==◌}
 use Rattle.std.specs.List.{list_all}
+use Rattle.std.specs.Int.{is_in_range}
 use Rattle.netlist.specs.declared.kind.Kind.{Kind}
 use Rattle.netlist.specs.declared.kind.Kind.TheVariants.{Buf, Not, And, Or, Xor, Nand, Nor, Xnor}
 
@@ -20,9 +21,6 @@ pub record Circuit : Type 0 where
 abbrev pub nothing : Circuit
 nothing = record { inputs = 0; gates = []; outputs = [] }
 
-abbrev pub in_range : ℕ → ℕ → ℕ → Bool
-in_range least most n = nat_le least n && nat_le n most
-
 abbrev pub kind_name : Kind → List ℕ
 kind_name Buf = codes "BUF"
 kind_name Not = codes "NOT"
@@ -37,20 +35,20 @@ kind_name Xnor = codes "XNOR"
 abbrev pub fits : Kind → ℕ → Bool
 fits Buf n = n == 1
 fits Not n = n == 1
-fits And n = in_range 2 4 n
-fits Or n = in_range 2 4 n
-fits Xor n = in_range 2 4 n
-fits Nand n = in_range 2 4 n
-fits Nor n = in_range 2 4 n
-fits Xnor n = in_range 2 4 n
+fits And n = is_in_range 2 4 n
+fits Or n = is_in_range 2 4 n
+fits Xor n = is_in_range 2 4 n
+fits Nand n = is_in_range 2 4 n
+fits Nor n = is_in_range 2 4 n
+fits Xnor n = is_in_range 2 4 n
 
 -- a delay is 1 to 65,535 ticks
 abbrev pub delay_fits : ℕ → Bool
-delay_fits d = in_range 1 65535 d
+delay_fits d = is_in_range 1 65535 d
 
 -- each of them is a line of a netlist with so many lines
 abbrev pub on_lines : ℕ → List ℕ → Bool
-on_lines lines ns = list_all (in_range 1 lines) ns
+on_lines lines ns = list_all (is_in_range 1 lines) ns
 
 -- a gate that a netlist with so many lines may have
 abbrev pub legal : ℕ → Gate → Bool

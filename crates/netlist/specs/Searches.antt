@@ -1,7 +1,8 @@
 -- What a search keeps while it runs; it serves the contracts of the search's own functions.
 use Rattle.std.specs.Prelude.{◌≡◌, ℕ, ◌+◌, ◌≤◌, Bool, true, false, not, ◌⊎◌, [], ◌∷◌, ◌++◌, length, count_by, Contains, slice_index_or, slice_set}
+use Rattle.std.specs.Int.{is_in_range}
 use Rattle.netlist.specs.declared.draft.search.Search.{Search}
-use Rattle.netlist.specs.Gates.{Circuit, in_range}
+use Rattle.netlist.specs.Gates.{Circuit}
 use Rattle.netlist.specs.Walks.{Reads}
 
 abbrev pub seen : Search → ℕ → Bool
@@ -23,7 +24,7 @@ marked s m = record { seen = slice_set s.seen m true; waiting = record { items =
 pub record Sound (first last : ℕ) (s : Search) : Type 0 where
   pub table : length s.seen ≡ 1025
   pub room : length s.waiting.items + unseen s ≤ 1026
-  pub outside : (m : ℕ) → seen s m ≡ true → in_range first last m ≡ false
+  pub outside : (m : ℕ) → seen s m ≡ true → is_in_range first last m ≡ false
 
 -- from one search to another nothing is lost, and the lines that came to be seen wait and are read by line n
 pub record Grows (c : Circuit) (n : ℕ) (s t : Search) : Type 0 where

@@ -69,7 +69,8 @@ impl DeckReader {
     }
 }
 
-// Reads a deck: the bytes used and the draft, or the first fault and a dead draft. A pair, since a draft comes either way.
+// Reads a deck: the bytes used and the draft, or the first fault and a dead draft. A pair, since a draft comes either
+// way.
 pub fn read(bytes: &[u8]) -> (Result<usize, Fault>, Draft)
     ensures comes_to { Outcome bytes.now (answer_of result.0) (sheet result.1) }
     ensures only { (a : Answer) (s : Sheet) → Outcome bytes.now a s → (a ≡ answer_of result.0) × (s ≡ sheet result.1) }

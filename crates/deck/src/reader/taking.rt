@@ -58,12 +58,11 @@ impl DeckReader {
     {
         let line = told + 1;
         source.input(line)?;
-        let phase = if line == self.draft.inputs() {
+        self.phase = if line == self.draft.inputs() {
             Phase::Gates
         } else {
             Phase::Inputs { told: line }
         };
-        self.phase = phase;
         self.records += 1;
         Ok(Entry::Input(line))
     }
@@ -78,12 +77,11 @@ impl DeckReader {
         let row = source.gate(line, self.draft.lines())?;
         // The record's tests are the draft's own, so the draft takes the gate.
         let _ = self.draft.add_gate(row.kind, row.delay, row.reads());
-        let phase = if self.draft.takes_gate() {
+        self.phase = if self.draft.takes_gate() {
             Phase::Gates
         } else {
             Phase::Outputs
         };
-        self.phase = phase;
         self.records += 1;
         Ok(Entry::Gate(line, row))
     }
@@ -97,12 +95,11 @@ impl DeckReader {
         let line = source.output(self.draft.lines())?;
         // Likewise the output.
         let _ = self.draft.add_output(line);
-        let phase = if self.draft.takes_output() {
+        self.phase = if self.draft.takes_output() {
             Phase::Outputs
         } else {
             Phase::End
         };
-        self.phase = phase;
         self.records += 1;
         Ok(Entry::Output(line))
     }

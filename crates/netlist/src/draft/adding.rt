@@ -1,7 +1,8 @@
 // Adding gates and outputs to a draft.
 ghost use Rattle.std.specs.Prelude.{◌≡◌, ◌+◌, ◌<◌, true, ◌≢◌};
+ghost use Rattle.std.specs.Int.{is_in_range};
 ghost use Rattle.netlist.specs.Drafts.{sheet, takes_gate, takes_output, gate_answer, output_answer, with_gate, with_output};
-ghost use Rattle.netlist.specs.Gates.{in_range, on_lines, legal};
+ghost use Rattle.netlist.specs.Gates.{on_lines, legal};
 ghost use Rattle.netlist.specs.Refusals.{answer};
 
 use super::Draft;
@@ -78,7 +79,7 @@ impl Draft {
     fn push_output(&mut self, line: u32)
         requires room { self.old.named < self.old.size.outputs }
         requires gates_first { self.old.drawn ≡ self.old.size.gates }
-        requires lawful { in_range 1 (self.old.size.inputs + self.old.size.gates) line ≡ true }
+        requires lawful { is_in_range 1 (self.old.size.inputs + self.old.size.gates) line ≡ true }
         ensures { sheet self.new ≡ with_output (sheet self.old) line }
     {
         let at = self.named;

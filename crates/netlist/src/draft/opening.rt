@@ -1,7 +1,6 @@
 // Opening a draft.
-ghost use Rattle.std.specs.Prelude.{◌≡◌, suc, ◌+◌, [], length, replicate};
-ghost use Rattle.netlist.specs.Drafts.{sheet, lines, opened, limits_answer};
-ghost use Rattle.netlist.specs.GateRow.{empty};
+ghost use Rattle.std.specs.Prelude.{◌≡◌, suc, ◌+◌, [], length};
+ghost use Rattle.netlist.specs.Drafts.{sheet, lines, opened, limits_answer, NoRowFilled};
 ghost use Rattle.netlist.specs.Refusals.{answer};
 ghost use Rattle.netlist.specs.Rows.{HasPlaces};
 
@@ -35,7 +34,7 @@ impl Draft {
     // Opens a draft, which never fails; outside the limits it is a dead one.
     pub fn new(size: Size) -> Draft
         ensures opens { sheet result ≡ opened size.inputs size.gates size.outputs }
-        ensures rows_empty { result.rows ≡ replicate 768 empty }
+        ensures rows_empty { NoRowFilled result }
     {
         match Draft::limits(size) {
             Ok(()) => Draft::blank(size),
@@ -47,7 +46,7 @@ impl Draft {
     fn blank(size: Size) -> Draft
         requires { HasPlaces size }
         ensures nothing_filled { sheet result ≡ record { gates = size.gates; outputs = size.outputs; circuit = record { inputs = size.inputs; gates = []; outputs = [] } } }
-        ensures rows_empty { result.rows ≡ replicate 768 empty }
+        ensures rows_empty { NoRowFilled result }
     {
         Draft {
             size,

@@ -1,6 +1,6 @@
 // A search against the direction of walks: from a line to those it reads, and on to those that they read.
 ghost use Rattle.std.specs.Prelude.{◌≡◌, ◌<◌, [], ◌∷◌, length, replicate, false};
-ghost use Rattle.netlist.specs.Gates.{in_range};
+ghost use Rattle.std.specs.Int.{is_in_range};
 ghost use Rattle.netlist.specs.Searches.{marked};
 
 use arrayvec::ArrayVec;
@@ -14,7 +14,7 @@ pub(super) struct LineRange {
 
 impl LineRange {
     pub(super) fn contains(self, line: u32) -> bool
-        ensures { result ≡ in_range self.first self.last line }
+        ensures { result ≡ is_in_range self.first self.last line }
     {
         (self.first..=self.last).contains(&(line as usize))
     }

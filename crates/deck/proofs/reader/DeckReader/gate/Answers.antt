@@ -32,7 +32,7 @@ invariant_of-self c =
     let fine : legal (lines (sheet d.draft)) handed ≡ true = ap (legal (lines (sheet d.draft))) same ∙ ap (λ m. legal m row.gate) (sym c.lines.ensures) ∙ c.in_ok-row.ensures.1 in
     let t = c.add_gate.new.self in
     let is = gate_added d c.requires.phase handed t c.add_gate.result c.add_gate.ensures.answers c.add_gate.ensures.adds fine in
-    let at = gate_stands d c.requires.phase handed t is c.if-takes_gate.phase (elim c.if-takes_gate.branch [ then-takes_gate w ↦ inl (w.if-takes_gate.ensures, w.phase-is) | else-takes_gate w ↦ inr (w.if-takes_gate.ensures, w.phase-is) ]) in
+    let at = gate_stands d c.requires.phase handed t is c.if-takes_gate.self (elim c.if-takes_gate.branch [ then-takes_gate w ↦ inl (w.if-takes_gate.ensures, w.self-is) | else-takes_gate w ↦ inr (w.if-takes_gate.ensures, w.self-is) ]) in
     record {
       phased = at.agreed;
       counted = counted_more d _ _ at.grown;
@@ -51,6 +51,6 @@ returns c =
     record {
       spelling = whole_is c.args.source.now (gate c.next_line-line.result row.gate) 71 c.requires.letter c.in_ok-row.ensures.0 refl;
       unmarked = c.in_ok-row.ensures.2;
-      one_more = (gate_stands d c.requires.phase handed t is c.if-takes_gate.phase (elim c.if-takes_gate.branch [ then-takes_gate w ↦ inl (w.if-takes_gate.ensures, w.phase-is) | else-takes_gate w ↦ inr (w.if-takes_gate.ensures, w.phase-is) ])).grown
+      one_more = (gate_stands d c.requires.phase handed t is c.if-takes_gate.self (elim c.if-takes_gate.branch [ then-takes_gate w ↦ inl (w.if-takes_gate.ensures, w.self-is) | else-takes_gate w ↦ inr (w.if-takes_gate.ensures, w.self-is) ])).grown
           ∙ (λ i. rows (progress_of d) ++ (gate (sym c.next_line-line.ensures i) (same i) ∷ []));
     }

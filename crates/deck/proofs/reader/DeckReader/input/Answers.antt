@@ -19,8 +19,8 @@ pub invariant_of-self : goal.invariant_of-self
 invariant_of-self c =
     let d = c.args.self.now in
     let at =
-    input_stands d c.args.told c.requires.phase c.if-line-inputs.phase
-    (elim c.if-line-inputs.branch [ then-line-inputs w ↦ inl (w.if-line-inputs.true ∙ c.inputs.ensures, w.phase-is) | else-line-inputs w ↦ inr (λ e. w.if-line-inputs.false (e ∙ sym c.inputs.ensures), w.phase-is) ]) in
+    input_stands d c.args.told c.requires.phase c.if-line-inputs.self
+    (elim c.if-line-inputs.branch [ then-line-inputs w ↦ inl (w.if-line-inputs.true ∙ c.inputs.ensures, w.self-is) | else-line-inputs w ↦ inr (λ e. w.if-line-inputs.false (e ∙ sym c.inputs.ensures), w.self-is) ]) in
     record {
       phased = at.agreed;
       counted = counted_more d _ _ at.grown;

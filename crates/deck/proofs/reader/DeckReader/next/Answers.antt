@@ -1,4 +1,4 @@
-use Rattle.std.proofs.Common.{◌≡◌, ℕ, suc, ◌+◌, ◌<◌, List, ◌∷◌, ◌++◌, length, get_or, take, drop, ap, ◌∙◌, subst, arith}
+use Rattle.std.proofs.Common.{◌≡◌, ℕ, suc, ◌+◌, ◌<◌, List, ◌∷◌, ◌++◌, length, get_or, take, drop, ap, ◌∙◌, arith}
 use Rattle.std.proofs.lemmas.List.{length-take-le}
 use Rattle.deck.specs.Faults.{told}
 use Rattle.deck.specs.Outcomes.{Unended, Fails}
@@ -12,7 +12,6 @@ use Rattle.deck.specs.declared.fault.Fault.{Fault}
 use Rattle.deck.specs.declared.reader.DeckReader.{DeckReader}
 use Rattle.deck.proofs.Bytes.{at_ending}
 use Rattle.deck.proofs.Exits.{carried}
-use Rattle.deck.proofs.Readers.{few_records}
 use Rattle.deck.proofs.reader.DeckReader.next.Goals as goal
 
 -- what is said of the record holds of the bytes that begin with it

@@ -1,0 +1,5 @@
+pub mod Bits
+pub mod Knowledge
+pub mod Meanings
+pub mod Places
+pub mod Words

@@ -1,0 +1,4 @@
+pub mod Knowledge
+pub mod Lanes
+pub mod Relations
+pub mod Systems

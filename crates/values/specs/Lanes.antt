@@ -1,5 +1,6 @@
 -- 64 two-valued bits side by side in a word.
-use Rattle.std.specs.Prelude.{Bool, ◌==◌}
+use Rattle.std.specs.Prelude.{ℕ, ◌-◌, false, List, ◌++◌, length, replicate, Bool, ◌==◌}
+use Rattle.std.specs.Fmt.{digits}
 use Rattle.std.specs.Int.{bit_at}
 use Rattle.values.specs.Systems.{System, two_valued}
 use Rattle.values.specs.declared.lane.Lane.{Lane}
@@ -21,3 +22,7 @@ lanes = side_by_side Lane two_valued
 -- the bit that a word has in a lane, which is that of weight 2 ^ place
 abbrev pub bits_of : Lanes → Lane → Bool
 bits_of word lane = bit_at word.0 lane.place == 1
+
+-- a word in hexadecimal: its digits after as many zeros as make 16
+abbrev pub hexadecimal : Lanes → List ℕ
+hexadecimal word = let numeral = digits 16 false word.0 in replicate (16 - length numeral) 48 ++ numeral

@@ -1,9 +1,9 @@
 // 64 two-valued bits side by side in a word.
-ghost use Rattle.std.specs.Prelude.{◌≡◌, ◌==◌, Bool};
+ghost use Rattle.std.specs.Prelude.{◌≡◌, ◌==◌, Bool, Some};
 ghost use Rattle.std.proofs.Common.{ap};
 ghost use Rattle.std.proofs.Math.Path.{fun_ext};
 ghost use Rattle.std.proofs.lemmas.Nat.Bits.{bit_at-zero};
-ghost use Rattle.values.specs.Lanes.{lanes, bits_of};
+ghost use Rattle.values.specs.Lanes.{lanes, bits_of, hexadecimal};
 ghost use Rattle.values.specs.declared.lane.Lane.{Lane};
 
 use crate::bit::Bit;
@@ -68,6 +68,8 @@ impl ValueSystem for Lanes {
 
 // The word in hexadecimal.
 impl fmt::Display for Lanes {
+    ghost output = { λ word. Some (hexadecimal word) };
+
     fn fmt<W: fmt::Write>(&self, f: &mut fmt::Formatter<W>) -> fmt::Result {
         write!(f, "{:016x}", self.0)
     }

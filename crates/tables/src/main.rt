@@ -1,0 +1,199 @@
+// Prints the truth table of each kind of gate in each value system, and compares the systems by the relations between
+// them.
+#![tactic(auto)]
+
+use gates::{combine, finish};
+use netlist::kind::Kind;
+use std::fmt::Display;
+use std::io;
+use values::bit::Bit;
+use values::lane::Lane;
+use values::lanes::Lanes;
+use values::relation::Relation;
+use values::stands_for::StandsFor;
+use values::system::ValueSystem;
+use values::ternary::Ternary;
+
+const KINDS: [Kind; 8] = [
+    Kind::Buf,
+    Kind::Not,
+    Kind::And,
+    Kind::Or,
+    Kind::Xor,
+    Kind::Nand,
+    Kind::Nor,
+    Kind::Xnor,
+];
+
+// Two words that have each pair of bits in some lane.
+const WORDS: [Lanes; 2] = [Lanes(0xaaaa_aaaa_aaaa_aaaa), Lanes(0xcccc_cccc_cccc_cccc)];
+
+// The bits that each three-valued value stands for.
+const STOOD_FOR: [(Ternary, Bit); 4] = [
+    (Ternary::Zero, Bit(false)),
+    (Ternary::One, Bit(true)),
+    (Ternary::X, Bit(false)),
+    (Ternary::X, Bit(true)),
+];
+
+// A row of a table: what the kind shows of the first operand, with each value after it.
+fn print_row<V: ValueSystem + Display>(
+    rt: &impl Print,
+    label: &str,
+    kind: Kind,
+    first: V,
+    values: &[V],
+) -> io::Result<()> {
+    print!(rt; "  {label:<4}")?;
+    for last in values {
+        let shown = finish(kind, combine(kind, first, *last));
+        print!(rt; " {shown}")?;
+    }
+    println!(rt; "")
+}
+
+// The table of a kind that reads one line: a single row.
+fn print_short_table<V: ValueSystem + Display>(
+    rt: &impl Print,
+    kind: Kind,
+    values: &[V],
+) -> io::Result<()> {
+    let name = kind.name();
+    print!(rt; "  {name:<4}")?;
+    for value in values {
+        let shown = finish(kind, *value);
+        print!(rt; " {shown}")?;
+    }
+    println!(rt; "")
+}
+
+fn print_table<V: ValueSystem + Display>(
+    rt: &impl Print,
+    kind: Kind,
+    values: &[V],
+) -> io::Result<()> {
+    if kind.takes(1) {
+        return print_short_table(rt, kind, values);
+    }
+    let mut label = kind.name();
+    for first in values {
+        print_row(rt, label, kind, *first, values)?;
+        label = "";
+    }
+    Ok(())
+}
+
+fn print_system<V: ValueSystem + Display>(
+    rt: &impl Print,
+    name: &str,
+    values: &[V],
+) -> io::Result<()> {
+    let start = V::START;
+    print!(rt; "{name}: START {start}, operands down and across")?;
+    for value in values {
+        print!(rt; " {value}")?;
+    }
+    println!(rt; "")?;
+    for kind in KINDS {
+        print_table(rt, kind, values)?;
+    }
+    Ok(())
+}
+
+// How many gates were compared in two systems, and how many of them showed tied values.
+#[derive(Clone, Copy)]
+struct Comparison {
+    compared: u32,
+    tied: u32,
+}
+
+impl Comparison {
+    const NOTHING: Comparison = Comparison {
+        compared: 0,
+        tied: 0,
+    };
+
+    fn and(self, tied: bool) -> Comparison {
+        Comparison {
+            compared: self.compared.saturating_add(1),
+            tied: self.tied.saturating_add(tied as u32),
+        }
+    }
+}
+
+// Gates of one kind that read the first pair, and each of the others after it.
+fn compare_after<V: ValueSystem, W: ValueSystem, R: Relation<V, W>>(
+    relation: &R,
+    kind: Kind,
+    first: (V, W),
+    pairs: &[(V, W)],
+    before: Comparison,
+) -> Comparison {
+    let mut comparison = before;
+    for last in pairs {
+        let left = finish(kind, combine(kind, first.0, last.0));
+        let right = finish(kind, combine(kind, first.1, last.1));
+        comparison = comparison.and(relation.ties(left, right));
+    }
+    comparison
+}
+
+// Gates of one kind at all operands that the pairs give.
+fn compare_kind<V: ValueSystem, W: ValueSystem, R: Relation<V, W>>(
+    relation: &R,
+    kind: Kind,
+    pairs: &[(V, W)],
+    before: Comparison,
+) -> Comparison {
+    let mut comparison = before;
+    for pair in pairs {
+        comparison = if kind.takes(1) {
+            comparison.and(relation.ties(finish(kind, pair.0), finish(kind, pair.1)))
+        } else {
+            compare_after(relation, kind, *pair, pairs, comparison)
+        };
+    }
+    comparison
+}
+
+fn compare<V: ValueSystem, W: ValueSystem, R: Relation<V, W>>(
+    relation: &R,
+    pairs: &[(V, W)],
+    before: Comparison,
+) -> Comparison {
+    let mut comparison = before;
+    for kind in KINDS {
+        comparison = compare_kind(relation, kind, pairs, comparison);
+    }
+    comparison
+}
+
+// Each lane of the words with the two-valued bits in it.
+fn compare_lanes() -> Comparison {
+    let mut comparison = Comparison::NOTHING;
+    for lane in (0..64).filter_map(Lane::new) {
+        comparison = compare(&lane, &WORDS.map(|word| (word, word.bit(lane))), comparison);
+    }
+    comparison
+}
+
+fn print_comparison(rt: &impl Print, name: &str, comparison: Comparison) -> io::Result<()> {
+    let Comparison { compared, tied } = comparison;
+    println!(rt; "{name}: {compared} gates compared, {tied} show tied values")
+}
+
+fn main(rt: HostRuntime) -> io::Result<()> {
+    print_system(&rt, "two-valued", &[Bit(false), Bit(true)])?;
+    print_system(
+        &rt,
+        "three-valued",
+        &[Ternary::Zero, Ternary::One, Ternary::X],
+    )?;
+    print_system(&rt, "lanes", &WORDS)?;
+    print_comparison(
+        &rt,
+        "three-valued and two-valued",
+        compare(&StandsFor, &STOOD_FOR, Comparison::NOTHING),
+    )?;
+    print_comparison(&rt, "lanes and two-valued", compare_lanes())
+}

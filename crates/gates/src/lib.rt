@@ -47,6 +47,7 @@ pub fn gate<V: ValueSystem>(kind: Kind, operands: &[V]) -> V
 }
 
 // Whether gates of one kind in two systems show tied values. They do wherever their operands are tied one by one.
+#[tactic(auto, using(crate::proofs::Ties::gates_tied))]
 pub fn gates_tied<V: ValueSystem, W: ValueSystem, R: Relation<V, W>>(
     relation: &R,
     kind: Kind,

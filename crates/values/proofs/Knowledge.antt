@@ -1,5 +1,5 @@
 -- What is known of a function of bits holds of the function of any bits that the values stand for.
-use Rattle.std.proofs.Common.{Bool, true, false, not, List, [], ◌∷◌, map, refl, ap, sym, subst, ◌∙◌, arith, zero, suc}
+use Rattle.std.proofs.Common.{◌≡◌, Bool, true, false, not, List, [], ◌∷◌, map, refl, ap, sym, subst, ◌∙◌, arith, zero, suc}
 use Rattle.std.proofs.lemmas.Bool.{cond_both}
 use Rattle.std.proofs.lemmas.List.{get_or-map, length-map}
 use Rattle.std.proofs.lemmas.List.Folds.{list_all_at}
@@ -8,11 +8,13 @@ use Rattle.std.specs.List.{list_all}
 use Rattle.std.proofs.lemmas.List.Elements.{Contains-append_left, Contains-append_right}
 use Rattle.values.specs.Systems.{two_valued}
 use Rattle.values.specs.Knowledge.{stands_for, known, of_one, of_two, three_valued}
-use Rattle.values.specs.Relations.{Kept}
+use Rattle.values.specs.Relations.{Kept, Tied}
+use Rattle.values.proofs.Bits.{its_bit, every_bit}
+use Rattle.values.proofs.Meanings.{kept}
 use Rattle.values.specs.declared.ternary.Ternary.{Ternary}
 use Rattle.values.specs.declared.ternary.Ternary.TheVariants.{Zero, One, X}
 
-abbrev pub May : Ternary → Bool → Type 0
+abbrev May : Ternary → Bool → Type 0
 May value bit = Contains (stands_for value) bit
 
 first : {A : Type 0} (x : A) (xs : List A) → Contains (x ∷ xs) x
@@ -39,7 +41,7 @@ of_one_holds f a x h = known_holds (map f (stands_for a)) (f x) (in_map f (stand
 of_two_holds : (f : Bool → Bool → Bool) (a b : Ternary) (x y : Bool) → May a x → May b y → May (of_two f a b) (f x y)
 of_two_holds f a b x y h k = known_holds (flat_map (λ u. map (f u) (stands_for b)) (stands_for a)) (f x y) (in_flat_map (λ u. map (f u) (stands_for b)) (stands_for a) x (f x y) h (in_map (f x) (stands_for b) y k))
 
-pub knowledge_kept : Kept three_valued two_valued May
+knowledge_kept : Kept three_valued two_valued May
 knowledge_kept = record {
   start = first false (true ∷ []);
   not = λ a x h. of_one_holds two_valued.not a x h;
@@ -48,6 +50,10 @@ knowledge_kept = record {
   xor = λ a b x y h k. of_two_holds two_valued.xor a b x y h k;
 }
 
-pub either : (bit : Bool) → May X bit
-either false = first false (true ∷ [])
-either true = later false true (true ∷ []) (first true [])
+pub stands_for_kept : Kept three_valued two_valued (Tied (λ (value : Ternary). value) its_bit (λ value bit. Contains (stands_for value) bit.0))
+stands_for_kept = kept (λ (value : Ternary). value) its_bit May (λ value. record { value = value; is = refl }) every_bit three_valued two_valued knowledge_kept
+
+-- X stands for either bit
+pub either : (value : Ternary) (bit : Bool) → value ≡ X → Contains (stands_for value) bit
+either value false is = rw is (first false (true ∷ []))
+either value true is = rw is (later false true (true ∷ []) (first true []))

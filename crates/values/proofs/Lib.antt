@@ -1,4 +1,5 @@
 pub mod Bits
+pub mod Hexadecimal
 pub mod Knowledge
 pub mod Meanings
 pub mod Places

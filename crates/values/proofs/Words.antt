@@ -31,6 +31,7 @@ module _ (of_words : ℕ → ℕ → ℕ) (of_digits : ℕ → ℕ → ℕ) (of_
   Agree x y = (of_digits x y == 1) ≡ of_bits (x == 1) (y == 1)
 
   bit_by_bit : Agree 0 0 → Agree 0 1 → Agree 1 0 → Agree 1 1 → (a b : ℕ) → bits (of_words a b) ≡ (λ lane. of_bits (bits a lane) (bits b lane))
+  unfolding bits_of
   bit_by_bit at_00 at_01 at_10 at_11 a b = fun_ext (λ lane.
       let x = bit_at a lane.place in
       let y = bit_at b lane.place in
@@ -47,6 +48,7 @@ pub xor_bits : (a b : ℕ) → bits (bit_xor a b) ≡ lanes.xor (bits a) (bits b
 xor_bits = bit_by_bit bit_xor (λ x y. (x + y) % 2) differ bit_at_xor refl refl refl refl
 
 pub not_bits : (a : ℕ) → a < 2 ^ 64 → bits (2 ^ 64 - 1 - a) ≡ lanes.not (bits a)
+unfolding bits_of
 not_bits a h = fun_ext (λ lane. rw (bit_at_not w64 a lane.place h lane.in_word) (digits (λ x. (1 - x == 1) ≡ not (x == 1)) refl refl (bit_at a lane.place) (bit_at-lt a lane.place)))
 
 same_digit : (x y : ℕ) → x < 2 → y < 2 → (x == 1) ≡ (y == 1) → x ≡ y
@@ -54,6 +56,7 @@ same_digit x y hx hy = digits (λ x. (x == 1) ≡ (y == 1) → x ≡ y) (digits 
 
 -- words with the same bits are equal
 pub same_word : (a b : ℕ) → a < 2 ^ 64 → b < 2 ^ 64 → bits a ≡ bits b → a ≡ b
+unfolding bits_of
 same_word a b ha hb e = same_from_bits_below 64 a b ha hb (λ place h. same_digit (bit_at a place) (bit_at b place) (bit_at-lt a place) (bit_at-lt b place) (ap (λ f. f (record { place = place; in_word = h })) e))
 
 -- a number with the wanted bits in the lowest n lanes
@@ -69,6 +72,7 @@ same_lane wanted a b e = subst (λ n. (h : n < 64) → wanted a ≡ wanted (reco
 -- the bit of one lane more, as the highest digit
 module _ (wanted : Lane → Bool) (top : Lane) (lower : Built wanted top.place) where
   with_top : (digit : ℕ) → digit < 2 → (digit == 1) ≡ wanted top → Built wanted (suc top.place)
+  unfolding bits_of
   with_top digit small is =
       let n = top.place in
       let low = lower.number in

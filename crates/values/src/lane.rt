@@ -30,6 +30,7 @@ impl Relation<Lanes, Bit> for Lane {
 
     ghost Ties = { λ lane word bit. bits_of word lane ≡ bit.0 };
 
+    #[tactic(auto, using(crate::proofs::Places::lane_decided, crate::proofs::Places::lane_kept))]
     fn ties(&self, left: Lanes, right: Bit) -> bool {
         left.bit(*self) == right
     }

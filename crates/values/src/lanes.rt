@@ -1,9 +1,6 @@
 // 64 two-valued bits side by side in a word.
 ghost use Rattle.std.specs.Prelude.{◌≡◌, ◌==◌, Bool, Some};
-ghost use Rattle.std.proofs.Common.{ap};
-ghost use Rattle.std.proofs.Math.Path.{fun_ext};
-ghost use Rattle.std.proofs.lemmas.Nat.Bits.{bit_at-zero};
-ghost use Rattle.values.specs.Lanes.{lanes, bits_of, hexadecimal};
+ghost use Rattle.values.specs.Lanes.{lanes, bits_of, start_bits, hexadecimal};
 ghost use Rattle.values.specs.declared.lane.Lane.{Lane};
 
 use crate::bit::Bit;
@@ -16,6 +13,7 @@ use std::fmt;
 pub struct Lanes(pub u64);
 
 impl Lanes {
+    #[tactic(auto, unfolding(crate::specs::Lanes::bits_of))]
     pub fn bit(self, lane: Lane) -> Bit
         ensures is_that_of_the_lane { result.0 ≡ bits_of self lane }
     {
@@ -26,6 +24,7 @@ impl Lanes {
 impl Element for Lanes {
     ghost Alike = { λ a b. bits_of a ≡ bits_of b };
 
+    #[tactic(auto, using(crate::proofs::Words::same_word))]
     fn alike(self, other: Self) -> bool {
         self == other
     }
@@ -41,22 +40,26 @@ impl ValueSystem for Lanes {
 
     ghost START = { record { 0 = 0 } };
 
-    ghost start_means = { fun_ext (λ lane. ap (λ digit. digit == 1) (bit_at-zero lane.place)) };
+    ghost start_means = { start_bits };
 
     const START: Self = Lanes(0);
 
+    #[tactic(auto, using(crate::proofs::Words::not_bits))]
     fn not(self) -> Self {
         Lanes(!self.0)
     }
 
+    #[tactic(auto, using(crate::proofs::Words::and_bits))]
     fn and(self, other: Self) -> Self {
         Lanes(self.0 & other.0)
     }
 
+    #[tactic(auto, using(crate::proofs::Words::or_bits))]
     fn or(self, other: Self) -> Self {
         Lanes(self.0 | other.0)
     }
 
+    #[tactic(auto, using(crate::proofs::Words::xor_bits))]
     fn xor(self, other: Self) -> Self {
         Lanes(self.0 ^ other.0)
     }
@@ -70,6 +73,7 @@ impl ValueSystem for Lanes {
 impl fmt::Display for Lanes {
     ghost output = { λ word. Some (hexadecimal word) };
 
+    #[tactic(auto, using(crate::proofs::Hexadecimal::laid_out))]
     fn fmt<W: fmt::Write>(&self, f: &mut fmt::Formatter<W>) -> fmt::Result {
         write!(f, "{:016x}", self.0)
     }

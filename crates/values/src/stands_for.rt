@@ -13,6 +13,7 @@ pub struct StandsFor;
 impl Relation<Ternary, Bit> for StandsFor {
     ghost Ties = { λ _ value bit. Contains (stands_for value) bit.0 };
 
+    #[tactic(auto, using(crate::proofs::Knowledge::stands_for_kept))]
     fn ties(&self, left: Ternary, right: Bit) -> bool {
         left.stands_for(right)
     }

@@ -29,6 +29,7 @@ const XOR: [[Ternary; 3]; 3] = [[Zero, One, X], [One, Zero, X], [X, X, X]];
 
 impl Ternary {
     // Whether the value stands for that bit: 0 and 1 for themselves, X for both.
+    #[tactic(auto, using(crate::proofs::Knowledge::either))]
     pub fn stands_for(self, bit: Bit) -> bool
         ensures decides_a_bit_it_may_be { Decides result (Contains (stands_for self) bit.0) }
     {

@@ -1,8 +1,5 @@
 -- 64 two-valued bits side by side in a word.
-use Rattle.std.proofs.Common.{ap}
-use Rattle.std.proofs.Math.Path.{fun_ext}
-use Rattle.std.proofs.lemmas.Nat.Bits.{bit_at-zero}
-use Rattle.std.specs.Prelude.{◌≡◌, ℕ, ◌-◌, false, List, ◌++◌, length, replicate, Bool, ◌==◌}
+use Rattle.std.specs.Prelude.{ℕ, ◌-◌, false, List, ◌++◌, length, replicate, Bool, ◌==◌}
 use Rattle.std.specs.Fmt.{digits}
 use Rattle.std.specs.Int.{bit_at}
 use Rattle.values.specs.Systems.{System, two_valued}
@@ -25,11 +22,6 @@ lanes = side_by_side Lane two_valued
 -- the bit that a word has in a lane, which is that of weight 2 ^ place
 unfoldable pub bits_of : Lanes → Lane → Bool
 bits_of word lane = bit_at word.0 lane.place == 1
-
--- START has a 0 in each lane
-pub start_bits : bits_of (record { 0 = 0 }) ≡ lanes.start
-unfolding bits_of
-start_bits = fun_ext (λ lane. ap (λ digit. digit == 1) (bit_at-zero lane.place))
 
 -- a word in hexadecimal: its digits after as many zeros as make 16
 abbrev pub hexadecimal : Lanes → List ℕ

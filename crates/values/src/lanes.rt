@@ -1,6 +1,9 @@
 // 64 two-valued bits side by side in a word.
 ghost use Rattle.std.specs.Prelude.{◌≡◌, ◌==◌, Bool, Some};
-ghost use Rattle.values.specs.Lanes.{lanes, bits_of, start_bits, hexadecimal};
+ghost use Rattle.std.proofs.Common.{ap};
+ghost use Rattle.std.proofs.Math.Path.{fun_ext};
+ghost use Rattle.std.proofs.lemmas.Nat.Bits.{bit_at-zero};
+ghost use Rattle.values.specs.Lanes.{lanes, bits_of, hexadecimal};
 ghost use Rattle.values.specs.declared.lane.Lane.{Lane};
 
 use crate::bit::Bit;
@@ -40,7 +43,7 @@ impl ValueSystem for Lanes {
 
     ghost START = { record { 0 = 0 } };
 
-    ghost start_means = { start_bits };
+    ghost start_means = { unfold bits_of in fun_ext (λ lane. ap (λ digit. digit == 1) (bit_at-zero lane.place)) };
 
     const START: Self = Lanes(0);
 

@@ -1,5 +1,5 @@
 // The tests by their subject.
 mod bit;
-mod gates;
+mod evaluation;
 mod lanes;
 mod ternary;

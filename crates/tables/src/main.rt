@@ -36,48 +36,40 @@ const STOOD_FOR: [(Ternary, Bit); 4] = [
     (Ternary::X, Bit(true)),
 ];
 
-// A row of a table: what the kind shows of the first operand, with each value after it.
-fn print_row<V: ValueSystem + Display>(
+// A row of a table: a label, and what is shown of each value.
+fn print_row<V: ValueSystem + Display, F: Fn(V) -> V>(
     rt: &impl Print,
     label: &str,
-    kind: Kind,
-    first: V,
     values: &[V],
-) -> io::Result<()> {
+    show: F,
+) -> io::Result<()>
+    requires { F.IsAlwaysCallable show }
+{
     print!(rt; "  {label:<4}")?;
-    for last in values {
-        let shown = finish(kind, combine(kind, first, *last));
-        print!(rt; " {shown}")?;
-    }
-    println!(rt; "")
-}
-
-// The table of a kind that reads one line: a single row.
-fn print_short_table<V: ValueSystem + Display>(
-    rt: &impl Print,
-    kind: Kind,
-    values: &[V],
-) -> io::Result<()> {
-    let name = kind.name();
-    print!(rt; "  {name:<4}")?;
     for value in values {
-        let shown = finish(kind, *value);
+        let shown = show(*value);
         print!(rt; " {shown}")?;
     }
     println!(rt; "")
 }
 
+// The table of a kind: a single row, or a row for each first operand.
 fn print_table<V: ValueSystem + Display>(
     rt: &impl Print,
     kind: Kind,
     values: &[V],
 ) -> io::Result<()> {
-    if kind.takes(1) {
-        return print_short_table(rt, kind, values);
-    }
     let mut label = kind.name();
+    if kind.takes(1) {
+        return print_row(rt, label, values, |value| finish(kind, value));
+    }
     for first in values {
-        print_row(rt, label, kind, *first, values)?;
+        print_row(
+            rt,
+            label,
+            values,
+            |last| finish(kind, combine(kind, *first, last)),
+        )?;
         label = "";
     }
     Ok(())

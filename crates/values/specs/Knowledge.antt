@@ -11,7 +11,7 @@ stands_for Zero = false ∷ []
 stands_for One = true ∷ []
 stands_for X = false ∷ true ∷ []
 
--- what is known of a bit that may be any of these
+-- what is known of a bit that may be any of these, of which there is at least one
 abbrev pub known : List Bool → Ternary
 known bits = cond (list_all not bits) Zero (cond (list_all (λ bit. bit) bits) One X)
 

@@ -93,85 +93,63 @@ fn print_system<V: ValueSystem + Display>(
 }
 
 // How many gates were compared in two systems, and how many of them showed tied values.
-#[derive(Clone, Copy)]
+#[derive(Clone, Copy, Default)]
 struct Comparison {
     compared: u32,
     tied: u32,
 }
 
 impl Comparison {
-    const NOTHING: Comparison = Comparison {
-        compared: 0,
-        tied: 0,
-    };
+    fn note(&mut self, tied: bool) {
+        self.compared = self.compared.saturating_add(1);
+        self.tied = self.tied.saturating_add(tied as u32);
+    }
 
-    fn and(self, tied: bool) -> Comparison {
-        Comparison {
-            compared: self.compared.saturating_add(1),
-            tied: self.tied.saturating_add(tied as u32),
+    // Gates of one kind that read the first pair, and each of the pairs after it.
+    fn compare_after<V: ValueSystem, W: ValueSystem, R: Relation<V, W>>(
+        &mut self,
+        relation: &R,
+        kind: Kind,
+        first: (V, W),
+        pairs: &[(V, W)],
+    ) {
+        for last in pairs {
+            let left = finish(kind, combine(kind, first.0, last.0));
+            let right = finish(kind, combine(kind, first.1, last.1));
+            self.note(relation.ties(left, right));
         }
     }
-}
 
-// Gates of one kind that read the first pair, and each of the others after it.
-fn compare_after<V: ValueSystem, W: ValueSystem, R: Relation<V, W>>(
-    relation: &R,
-    kind: Kind,
-    first: (V, W),
-    pairs: &[(V, W)],
-    before: Comparison,
-) -> Comparison {
-    let mut comparison = before;
-    for last in pairs {
-        let left = finish(kind, combine(kind, first.0, last.0));
-        let right = finish(kind, combine(kind, first.1, last.1));
-        comparison = comparison.and(relation.ties(left, right));
+    // Gates of one kind at all operands that the pairs give.
+    fn compare_kind<V: ValueSystem, W: ValueSystem, R: Relation<V, W>>(
+        &mut self,
+        relation: &R,
+        kind: Kind,
+        pairs: &[(V, W)],
+    ) {
+        for pair in pairs {
+            if kind.takes(1) {
+                self.note(relation.ties(finish(kind, pair.0), finish(kind, pair.1)));
+            } else {
+                self.compare_after(relation, kind, *pair, pairs);
+            }
+        }
     }
-    comparison
-}
 
-// Gates of one kind at all operands that the pairs give.
-fn compare_kind<V: ValueSystem, W: ValueSystem, R: Relation<V, W>>(
-    relation: &R,
-    kind: Kind,
-    pairs: &[(V, W)],
-    before: Comparison,
-) -> Comparison {
-    let mut comparison = before;
-    for pair in pairs {
-        comparison = if kind.takes(1) {
-            comparison.and(relation.ties(finish(kind, pair.0), finish(kind, pair.1)))
-        } else {
-            compare_after(relation, kind, *pair, pairs, comparison)
-        };
+    fn compare<V: ValueSystem, W: ValueSystem, R: Relation<V, W>>(
+        &mut self,
+        relation: &R,
+        pairs: &[(V, W)],
+    ) {
+        for kind in KINDS {
+            self.compare_kind(relation, kind, pairs);
+        }
     }
-    comparison
-}
 
-fn compare<V: ValueSystem, W: ValueSystem, R: Relation<V, W>>(
-    relation: &R,
-    pairs: &[(V, W)],
-    before: Comparison,
-) -> Comparison {
-    let mut comparison = before;
-    for kind in KINDS {
-        comparison = compare_kind(relation, kind, pairs, comparison);
+    fn print(self, rt: &impl Print, systems: &str) -> io::Result<()> {
+        let Comparison { compared, tied } = self;
+        println!(rt; "{systems}: {compared} gates compared, {tied} show tied values")
     }
-    comparison
-}
-
-// Each lane of the words with the two-valued bits in it.
-fn compare_lanes() -> Comparison {
-    let mut comparison = Comparison::NOTHING;
-    for lane in (0..64).filter_map(Lane::new) {
-        comparison = compare(&lane, &WORDS.map(|word| (word, word.bit(lane))), comparison);
-    }
-    comparison
-}
-
-fn print_comparison(rt: &impl Print, name: &str, comparison: Comparison) -> io::Result<()> {
-    let Comparison { compared, tied } = comparison;
-    println!(rt; "{name}: {compared} gates compared, {tied} show tied values")
 }
 
 fn main(rt: HostRuntime) -> io::Result<()> {
@@ -182,10 +160,12 @@ fn main(rt: HostRuntime) -> io::Result<()> {
         &[Ternary::Zero, Ternary::One, Ternary::X],
     )?;
     print_system(&rt, "lanes", &WORDS)?;
-    print_comparison(
-        &rt,
-        "three-valued and two-valued",
-        compare(&StandsFor, &STOOD_FOR, Comparison::NOTHING),
-    )?;
-    print_comparison(&rt, "lanes and two-valued", compare_lanes())
+    let mut known = Comparison::default();
+    known.compare(&StandsFor, &STOOD_FOR);
+    known.print(&rt, "three-valued and two-valued")?;
+    let mut lanes = Comparison::default();
+    for lane in (0..64).filter_map(Lane::new) {
+        lanes.compare(&lane, &WORDS.map(|word| (word, word.bit(lane))));
+    }
+    lanes.print(&rt, "lanes and two-valued")
 }

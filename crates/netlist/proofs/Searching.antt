@@ -92,7 +92,7 @@ further : (c : Circuit) (n j m : ℕ) → Upstream c n j → Reads c j m → Wal
 further c n j m up read = ⊎_elim (λ e. step (subst (λ k. Reads c k m) e read)) (λ w. on read w) up
 
 -- walks one after the other
-joined : (c : Circuit) (m j n : ℕ) → Walk c m j → Walk c j n → Walk c m n
+pub joined : (c : Circuit) (m j n : ℕ) → Walk c m j → Walk c j n → Walk c m n
 joined c m j n (step read) after = on read after
 joined c m j n (on {j = k} read walk) after = on read (joined c k j n walk after)
 

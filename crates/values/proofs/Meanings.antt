@@ -13,7 +13,7 @@ module _ {V W M N : Type 0} (left : V → M) (right : W → N) (R : M → N → 
   abbrev On : V → W → Type 0
   On v w = R (left v) (right w)
 
-  related : (m : M) (n : N) → Tied left right On m n → R m n
+  pub related : (m : M) (n : N) → Tied left right On m n → R m n
   related m n t = subst (λ x. R m x) t.right_is (subst (λ x. R x (right t.right)) t.left_is t.ties)
 
   -- an answer that tells whether two meanings are related tells whether they are tied
@@ -21,7 +21,7 @@ module _ {V W M N : Type 0} (left : V → M) (right : W → N) (R : M → N → 
   decided v w answer tells = ((λ yes. record { left = v; right = w; left_is = refl; right_is = refl; ties = tells.0 yes }), (λ t. tells.1 (related (left v) (right w) t)))
 
   module _ (every_left : (m : M) → Meant left m) (every_right : (n : N) → Meant right n) where
-    tied : (m : M) (n : N) → R m n → Tied left right On m n
+    pub tied : (m : M) (n : N) → R m n → Tied left right On m n
     tied m n r =
         let v = every_left m in
         let w = every_right n in

@@ -1,0 +1,14 @@
+pub mod Agreeing
+pub mod Depths
+pub mod Goals
+pub mod Invariants
+pub mod Listing
+pub mod Locality
+pub mod Looping
+pub mod Outcomes
+pub mod Proved
+pub mod Resting
+pub mod Ruling
+pub mod Settling
+pub mod Tying
+pub mod Wiring

@@ -1,0 +1,78 @@
+-- A take and a run have one outcome each.
+use Rattle.std.proofs.Common.{◌≡◌, ℕ, zero, suc, ◌+◌, ◌<◌, ◌≤◌, Bool, true, false, ◌⊎◌, refl, ap, sym, ◌∙◌, subst, inl, inr, ⊎_elim, arith}
+use Rattle.std.proofs.lemmas.Bool.{cases_order}
+use Rattle.semantics.specs.Nets.{Setup}
+use Rattle.semantics.specs.Accounts.{Account, goal, Overflows}
+use Rattle.semantics.specs.Moves.{taken, CanTake, Takeable, ComesFirst, Rest}
+use Rattle.semantics.specs.Logs.{Takes, Run}
+use Rattle.semantics.proofs.Listing.{no_room}
+use Rattle.semantics.proofs.Resting.{resting}
+
+module _ {M : Type 0} (s : Setup M) where
+  -- no take stops before another take of the gate
+  no_sooner : (a : Account M) (n front other : ℕ) → CanTake s a n front → CanTake s a n other → front < other → ⊥
+  no_sooner a n front other one two before = ⊎_elim at_goal at_stop one.stops
+    where
+      at_goal : front ≡ goal s.net a n → ⊥
+      at_goal is = omega (arith, two.not_beyond)
+
+      at_stop : Overflows s a n (front + s.net.lag n) → ⊥
+      at_stop over = no_room (front + s.net.lag n) over.counts over.changes over.full (omega arith) two.fits
+
+  pub one_front : (a : Account M) (n front other : ℕ) → CanTake s a n front → CanTake s a n other → front ≡ other
+  one_front a n front other one two =
+      ⊎_elim (λ same. same) (⊎_elim (λ before. absurd (no_sooner a n front other one two before)) (λ after. absurd (no_sooner a n other front two one after))) (cases_order front other)
+
+  one_first : (a : Account M) (n m : ℕ) → ComesFirst s a n → ComesFirst s a m → n ≡ m
+  one_first a n m one two = ⊎_elim (λ less. ⊎_elim (λ more. absurd (omega arith)) (λ same. absurd (omega (arith, same.0))) back) (λ same. ⊎_elim (λ more. absurd (omega (arith, same.0))) (λ same'. omega (arith, same.1, same'.1)) back) (one.first m two.can)
+    where
+      back : (a.front m < a.front n) ⊎ ((a.front m ≡ a.front n) × m ≤ n)
+      back = two.first n one.can
+
+  -- the account after a take of the gate that comes first
+  one_next : (a : Account M) (n m front other : ℕ) → ComesFirst s a n → ComesFirst s a m → CanTake s a n front → CanTake s a m other → taken a n front ≡ taken a m other
+  one_next a n m front other first first' can can' =
+      let same : n ≡ m = one_first a n m first first' in
+      let stop : front ≡ other = one_front a m front other (subst (λ k. CanTake s a k front) same can) can' in
+      ap (λ k. taken a k front) same ∙ ap (taken a m) stop
+
+  -- Takes that end at rest are no fewer than any others from there; as many takes come to one account.
+  pub no_more : {k j : ℕ} {a b d : Account M} → Takes s k a b → Rest s b → Takes s j a d → j ≤ k
+  no_more Takes.none rest Takes.none = omega arith
+  no_more {a = a} Takes.none rest (Takes.one_more {n = n} first can after) = absurd (resting s a n (rest n can.a_gate) first.can)
+  no_more (Takes.one_more first can after) rest Takes.none = omega arith
+  no_more {a = a} (Takes.one_more {k = k} {n = n} {front = front} {b = b} first can after) rest (Takes.one_more {k = j} {n = m} {front = other} {b = d} first' can' after') =
+      let same = one_next a m n other front first' first can' can in
+      let within = no_more after rest (subst (λ x. Takes s j x d) same after') in
+      omega arith
+
+  pub one_end : {k : ℕ} {a b d : Account M} → Takes s k a b → Takes s k a d → b ≡ d
+  one_end Takes.none Takes.none = refl
+  one_end {a = a} (Takes.one_more {k = k} {n = n} {front = front} first can after) (Takes.one_more {n = m} {front = other} {b = d} first' can' after') =
+      one_end after (subst (λ x. Takes s k x d) (one_next a m n other front first' first can' can) after')
+
+  record Same (b d : Account M) (count other : ℕ) (rest word : Bool) : Type 0 where
+    account : b ≡ d
+    number : count ≡ other
+    told : rest ≡ word
+
+  ends_same : {k j : ℕ} {a b d : Account M} → Takes s k a b → Takes s j a d → k ≡ j → b ≡ d
+  ends_same {a = a} {d = d} one other same = one_end one (subst (λ x. Takes s x a d) (sym same) other)
+
+  -- a run that ends at rest and one that has work left are not from one account
+  not_both_ends : {most count : ℕ} {a b d : Account M} (n : ℕ) → Takes s count a b → count ≤ most → Rest s b → Takes s most a d → Takeable s d n → ⊥
+  not_both_ends {most = most} {count = count} {b = b} {d = d} n one within rest other left =
+      let no_fewer = no_more one rest other in
+      let same : b ≡ d = ends_same one other (omega arith) in
+      let still : Takeable s b n = subst (λ x. Takeable s x n) (sym same) left in
+      resting s b n (rest n still.can.a_gate) still
+
+  pub one_run : {most count other : ℕ} {rest word : Bool} {a b d : Account M} → Run s most a b count rest → Run s most a d other word → (b ≡ d) × (count ≡ other) × (rest ≡ word)
+  one_run (Run.rest {count = k} one within rest) (Run.rest {count = j} other within' rest') =
+      let one_way = no_more one rest other in
+      let other_way = no_more other rest' one in
+      let same : k ≡ j = omega arith in
+      (ends_same one other same, same, refl)
+  one_run (Run.rest one within rest) (Run.more {n = n} other left) = absurd (not_both_ends n one within rest other left)
+  one_run (Run.more {n = n} one left) (Run.rest other within rest) = absurd (not_both_ends n other within rest one left)
+  one_run (Run.more one left) (Run.more other left') = (one_end one other, refl, refl)

@@ -1,0 +1,30 @@
+-- A relation that two rules carry ties the lines of two accounts wherever both are settled.
+use Rattle.std.proofs.Common.{◌≡◌, ℕ, suc, ◌+◌, ◌<◌, ap, sym, subst, arith}
+use Rattle.semantics.specs.Nets.{Net, Setup, Input, Gate, Line, Reads, Rule}
+use Rattle.semantics.specs.Accounts.{Account, settled}
+use Rattle.semantics.specs.Comparisons.{GivenTied, LinesTied}
+use Rattle.semantics.proofs.Goals.{settled_input}
+use Rattle.semantics.proofs.Locality.{Horizon, Carries}
+use Rattle.semantics.proofs.Invariants.{Held, settled_horizon}
+
+module _ {M N : Type 0} (net : Net) (r : Rule M) (q : Rule N) (room rom : ℕ) (R : M → N → Type 0) (carries : Carries net r q R) where
+  abbrev left : Setup M
+  left = record { net = net; rule = r; room = room }
+
+  abbrev right : Setup N
+  right = record { net = net; rule = q; room = rom }
+
+  module _ (a : Account M) (b : Account N) (a_held : Held left a) (b_held : Held right b) (given : GivenTied left right R a b) where
+    both_settled : Horizon net (λ n t. (t < settled net a n) × (t < settled net b n))
+    both_settled =
+        let one = settled_horizon left a a_held in
+        let other = settled_horizon right b b_held in
+        record { down = λ n t within. (one.down n t within.0, other.down n t within.1); back = λ n m t a_gate read within. (one.back n m t a_gate read within.0, other.back n m t a_gate read within.1) }
+
+    pub lines_tied : LinesTied left right R a b
+    lines_tied = record {
+      initial_values = carries.initial a.start b.start given.starts;
+      values = λ n t line here there.
+        carries.value a.start b.start a.wave b.wave given.starts (λ m u. (u < settled net a m) × (u < settled net b m)) both_settled
+        (λ m u an_input within. given.waves m u an_input (subst (λ end. u < end) (settled_input net a m an_input) within.0) (subst (λ end. u < end) (settled_input net b m an_input) within.1)) n t line (here, there);
+    }

@@ -1,0 +1,98 @@
+-- The net of a wired circuit is sound.
+use Rattle.std.proofs.Common.{◌≡◌, ℕ, zero, suc, ◌+◌, ◌-◌, ◌<◌, ◌≤◌, Bool, true, false, cond, ltb, ◌&&◌, ◌⊎◌, [], ◌∷◌, length, get_or, refl, ap, sym, ◌∙◌, subst, inl, inr, ⊎_elim, arith, Contains}
+use Rattle.std.proofs.lemmas.Bool.{ltb-true, ltb-false, lt-ltb, le-ltb, and_parts, cases_lt, leb-true, leb-false}
+use Rattle.std.proofs.lemmas.List.Sums.{AllPass-from_list_all}
+use Rattle.std.specs.Int.{is_in_range}
+use Rattle.netlist.specs.declared.kind.Kind.{Kind}
+use Rattle.netlist.specs.declared.kind.Kind.TheVariants.{Buf, Not, And, Or, Xor, Nand, Nor, Xnor}
+use Rattle.netlist.specs.Gates.{Gate as GateRow, Circuit, legal, fits, delay_fits, on_lines}
+use Rattle.netlist.specs.Walks.{no_gate, reads, Reads as ReadsLine}
+use Rattle.netlist.proofs.Ranges.{bounds}
+use Rattle.netlist.proofs.Reading.{reads_at_gate, read_bounds}
+use Rattle.semantics.specs.Nets.{Driver, Net, Input, Gate, Line, Reads, Sound}
+use Rattle.semantics.specs.Nets.Driver.{nothing, input, gate}
+use Rattle.semantics.specs.Circuits.{lines, gate_of_line, driver, net, Wired}
+
+when_gate : (x y : Bool) → cond x input (cond y gate nothing) ≡ gate → (x ≡ false) × (y ≡ true)
+when_gate true y is = cc
+when_gate false true is = (refl, refl)
+when_gate false false is = cc
+
+when_input : (x y : Bool) → cond x input (cond y gate nothing) ≡ input → x ≡ true
+when_input true y is = refl
+when_input false true is = cc
+when_input false false is = cc
+
+pub gate_range : (c : Circuit) (n : ℕ) → Gate (net c) n → (c.inputs < n) × (n ≤ lines c)
+gate_range c zero is = cc
+gate_range c (suc k) is =
+    let tests = when_gate (ltb k c.inputs) (ltb k (lines c)) is in
+    let past = ltb-false k c.inputs tests.0 in
+    let within = ltb-true k (lines c) tests.1 in
+    (omega arith, omega arith)
+
+pub input_range : (c : Circuit) (n : ℕ) → Input (net c) n → (1 ≤ n) × (n ≤ c.inputs)
+input_range c zero is = cc
+input_range c (suc k) is = let within = ltb-true k c.inputs (when_input (ltb k c.inputs) (ltb k (lines c)) is) in (omega arith, omega arith)
+
+-- all numbers from 1 to that of lines are lines
+pub a_line : (c : Circuit) (n : ℕ) → 1 ≤ n → n ≤ lines c → Line (net c) n
+a_line c zero low high = absurd (omega arith)
+a_line c (suc k) low high = ⊎_elim (λ below. inl (ap (λ b. cond b input (cond (ltb k (lines c)) gate nothing)) (lt-ltb k c.inputs below)))
+    (λ past. inr (ap (λ b. cond b input (cond (ltb k (lines c)) gate nothing)) (le-ltb k c.inputs past) ∙ ap (λ b. cond b gate nothing) (lt-ltb k (lines c) (omega arith))))
+    (cases_lt k c.inputs)
+
+pub line_range : (c : Circuit) (n : ℕ) → Line (net c) n → n ≤ lines c
+line_range c n line = ⊎_elim (λ an_input. let r = input_range c n an_input in omega (arith, r.1)) (λ a_gate. (gate_range c n a_gate).1) line
+
+pub reads_of : (c : Circuit) (n m : ℕ) → Reads (net c) n m → ReadsLine c n m
+reads_of c n m read = record { place = read.0; within = read.1; is = read_at (reads c n) read.0 m read.1 read.2 }
+  where
+    read_at : (ms : _) (k m : ℕ) → k < length ms → get_or ms k m ≡ m → get_or ms k 0 ≡ m
+    read_at [] k m within is = absurd (omega arith)
+    read_at (j ∷ js) zero m within is = is
+    read_at (j ∷ js) (suc k) m within is = read_at js k m (omega arith) is
+
+-- every kind takes some line
+none_fit : (kind : Kind) → fits kind 0 ≡ true → ⊥
+none_fit Buf is = cc
+none_fit Not is = cc
+none_fit And is = cc
+none_fit Or is = cc
+none_fit Xor is = cc
+none_fit Nand is = cc
+none_fit Nor is = cc
+none_fit Xnor is = cc
+
+some_fit : (kind : Kind) (k : ℕ) → fits kind k ≡ true → 0 < k
+some_fit kind zero is = absurd (none_fit kind is)
+some_fit kind (suc k) is = omega arith
+
+module _ (c : Circuit) (wired : Wired c) (n : ℕ) (a_gate : Gate (net c) n) where
+  its_gate : legal (lines c) (gate_of_line c n) ≡ true
+  its_gate = let range = gate_range c n a_gate in AllPass-from_list_all (legal (lines c)) c.gates wired (n - suc c.inputs) no_gate (omega arith)
+
+  its_parts : (delay_fits (gate_of_line c n).delay ≡ true) × (fits (gate_of_line c n).kind (length (gate_of_line c n).reads) ≡ true)
+  its_parts =
+      let g = gate_of_line c n in
+      let parts = and_parts (delay_fits g.delay && on_lines (lines c) g.reads) (fits g.kind (length g.reads)) its_gate in
+      ((and_parts (delay_fits g.delay) (on_lines (lines c) g.reads) parts.0).0, parts.1)
+
+  pub gate_time : 0 < (gate_of_line c n).delay
+  gate_time = let b = bounds 1 65535 (gate_of_line c n).delay its_parts.0 in omega (arith, b.0)
+
+  pub gate_reads : 0 < length (reads c n)
+  gate_reads =
+      let range = gate_range c n a_gate in
+      let is = reads_at_gate c n (n - suc c.inputs) (omega arith) in
+      subst (λ ms. 0 < length ms) (sym is) (some_fit (gate_of_line c n).kind (length (gate_of_line c n).reads) its_parts.1)
+
+  pub read_line : (m : ℕ) → ReadsLine c n m → Line (net c) m
+  read_line m read = let b = read_bounds c (lines c) n m wired read in a_line c m b.0 b.1
+
+pub sound : (c : Circuit) → Wired c → Sound (net c)
+sound c wired = record {
+  takes_time = gate_time c wired;
+  reads_some = gate_reads c wired;
+  reads_lines = λ n m a_gate read. read_line c wired n a_gate m (reads_of c n m read);
+}

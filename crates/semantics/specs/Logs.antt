@@ -1,0 +1,35 @@
+-- Logs: the calls that a session accepted, its making first. A refused call is no part of a log.
+use Rattle.std.specs.Prelude.{ℕ, zero, suc, ◌≤◌, Bool, true, false}
+use Rattle.semantics.specs.Nets.{Setup}
+use Rattle.semantics.specs.Accounts.{Account}
+use Rattle.semantics.specs.Moves.{made, fed, held, taken, trimmed, CanFeed, CanHold, CanTake, CanTrim, Takeable, ComesFirst, Rest}
+
+module _ {M : Type 0} (s : Setup M) where
+  -- so many takes lead from one account to another, each of the gate that comes first
+  pub data Takes : ℕ → Account M → Account M → Type 0 where
+    none : {a : Account M} → Takes zero a a
+    one_more : {k n front : ℕ} {a b : Account M} → ComesFirst s a n → CanTake s a n front → Takes k (taken a n front) b → Takes (suc k) a b
+
+  -- A run ends at rest, or with work left once it has made the most takes that it was asked for; it tells how many it made,
+  -- and whether it ended at rest.
+  pub data Run (most : ℕ) (a b : Account M) : ℕ → Bool → Type 0 where
+    rest : {count : ℕ} → Takes count a b → count ≤ most → Rest s b → Run most a b count true
+    more : {n : ℕ} → Takes most a b → Takeable s b n → Run most a b most false
+
+  -- one accepted call
+  pub data Step (a : Account M) : Account M → Type 0 where
+    feed : {n t : ℕ} {v : M} → CanFeed s a n t v → Step a (fed a n t v)
+    hold : {n t : ℕ} → CanHold s a n t → Step a (held a n t)
+    take : {n front : ℕ} → CanTake s a n front → Step a (taken a n front)
+    run : {most count : ℕ} {rest : Bool} {b : Account M} → Run most a b count rest → Step a b
+    trim : {t : ℕ} → CanTrim s a t → Step a (trimmed a t)
+
+  -- accepted calls, one after another
+  pub data Steps (a : Account M) : Account M → Type 0 where
+    none : Steps a a
+    then : {b c : Account M} → Steps a b → Step b c → Steps a c
+
+  -- a making and what came after it
+  pub record Log (a : Account M) : Type 0 where
+    pub start : ℕ → M
+    pub steps : Steps (made start) a

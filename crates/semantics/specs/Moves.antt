@@ -1,0 +1,74 @@
+-- How an account changes, call by call.
+use Rattle.std.specs.Prelude.{◌≡◌, ℕ, ◌+◌, ◌<◌, ◌≤◌, Bool, cond, nat_lt, ◌==◌, ◌⊎◌}
+use Rattle.semantics.specs.Changes.{AtMost}
+use Rattle.semantics.specs.Nets.{Input, Gate, Setup}
+use Rattle.semantics.specs.Accounts.{Account, settled, goal, Still, Overflows}
+
+-- a function of lines with another answer for one line
+abbrev pub put : {X : Type 0} → (ℕ → X) → ℕ → X → ℕ → X
+put f n x m = cond (m == n) x (f m)
+
+module _ {M : Type 0} where
+  -- all is new: nothing is given but the inputs' initial values
+  abbrev pub made : (ℕ → M) → Account M
+  made start = record { start = start; wave = λ n t. start n; end = λ n. 0; front = λ n. 0; trim = 0 }
+
+  -- the input keeps its last value up to the tick, where the new value begins
+  abbrev pub fed : Account M → ℕ → ℕ → M → Account M
+  fed a n t v = record a { wave = put a.wave n (λ u. cond (nat_lt u t) (a.wave n u) v); end = put a.end n (t + 1) }
+
+  -- the input keeps its last value up to the tick
+  abbrev pub held : Account M → ℕ → ℕ → Account M
+  held a n t = record a { end = put a.end n t }
+
+  abbrev pub taken : Account M → ℕ → ℕ → Account M
+  taken a n front = record a { front = put a.front n front }
+
+  abbrev pub trimmed : Account M → ℕ → Account M
+  trimmed a t = record a { trim = t }
+
+  module _ (s : Setup M) (a : Account M) where
+    -- an input can be fed from its end on, up to a limit, if there is room for the change that this makes
+    pub record CanFeed (n t : ℕ) (v : M) : Type 0 where
+      pub an_input : Input s.net n
+      pub not_past : a.end n ≤ t
+      pub in_time : t ≤ 1999999999
+      pub fits : AtMost s.room (Still s (fed a n t v) n) a.trim (t + 1)
+
+    pub record CanHold (n t : ℕ) : Type 0 where
+      pub an_input : Input s.net n
+      pub not_past : a.end n ≤ t
+      pub in_time : t ≤ 2000000000
+
+    -- A gate can be taken to a front beyond its own: to its goal, or to where a change comes for which there is no room.
+    pub record CanTake (n front : ℕ) : Type 0 where
+      pub a_gate : Gate s.net n
+      pub onward : a.front n < front
+      pub not_beyond : front ≤ goal s.net a n
+      pub fits : AtMost s.room (Still s a n) a.trim (front + s.net.lag n)
+      pub stops : (front ≡ goal s.net a n) ⊎ Overflows s a n (front + s.net.lag n)
+
+    -- changes can be dropped below a tick that no end or front has yet to reach
+    pub record CanTrim (t : ℕ) : Type 0 where
+      pub not_past : a.trim ≤ t
+      pub ends_reach : (n : ℕ) → Input s.net n → t ≤ a.end n
+      pub fronts_reach : (n : ℕ) → Gate s.net n → t ≤ a.front n
+
+    -- the gate can be taken to some front
+    pub record Takeable (n : ℕ) : Type 0 where
+      pub front : ℕ
+      pub can : CanTake n front
+
+    -- of the gates that can be taken, it is the one of the smallest front, and of those the smallest line
+    pub record ComesFirst (n : ℕ) : Type 0 where
+      pub can : Takeable n
+      pub first : (m : ℕ) → Takeable m → (a.front n < a.front m) ⊎ ((a.front n ≡ a.front m) × n ≤ m)
+
+    -- A gate rests with its front at its goal, or full: below its goal, where a change comes for which there is no room.
+    pub data Rests (n : ℕ) : Type 0 where
+      idle : a.front n ≡ goal s.net a n → Rests n
+      full : a.front n < goal s.net a n → Overflows s a n (a.front n + s.net.lag n) → Rests n
+
+    -- An account is at rest where every gate rests.
+    abbrev pub Rest : Type 0
+    Rest = (n : ℕ) → Gate s.net n → Rests n

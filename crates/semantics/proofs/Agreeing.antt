@@ -1,11 +1,10 @@
 -- Alike accounts at rest agree, since a distance hangs on nothing but what they are alike in.
-use Rattle.std.proofs.Common.{◌≡◌, ◌↔◌, ℕ, zero, suc, ◌+◌, ◌<◌, ◌≤◌, ◌⊎◌, List, refl, ap, sym, ◌∙◌, subst, inl, inr, ⊎_elim, arith}
-use Rattle.std.proofs.Math.Nat.{le_antisymm}
-use Rattle.semantics.specs.Nets.{Setup, Input, Gate, Line, Reads, Sound}
+use Rattle.std.proofs.Common.{◌≡◌, ◌↔◌, ℕ, ◌+◌, ◌<◌, ◌≤◌, List, sym, subst, arith}
+use Rattle.semantics.specs.Nets.{Setup, Input, Line, Sound}
 use Rattle.semantics.specs.Changes.{Changes}
-use Rattle.semantics.specs.Accounts.{Account, settled, initial, value, Still, Kept, Overflows}
+use Rattle.semantics.specs.Accounts.{Account, settled, initial, value, Still, Kept}
 use Rattle.semantics.specs.Moves.{Rest}
-use Rattle.semantics.specs.Distances.{Path, LimitedPath, Overfull, Distance}
+use Rattle.semantics.specs.Distances.{Path, LimitedPath, Overfull}
 use Rattle.semantics.specs.Comparisons.{Alike, Agree}
 use Rattle.semantics.proofs.Goals.{settled_input}
 use Rattle.semantics.proofs.Listing.{alike}
@@ -64,8 +63,8 @@ module _ {M : Type 0} (s : Setup M) where
           full = record {
             ticks = over.overflows.full.ticks;
             changes =
-              subst (λ from. Changes (Still s b n) stop from over.overflows.full.ticks) same.trims
-              (alike (λ t from to. still_below_paths a b same n t line (λ far path. let w = over.early far path in omega arith)) over.overflows.full.changes);
+                subst (λ from. Changes (Still s b n) stop from over.overflows.full.ticks) same.trims
+                (alike (λ t from to. still_below_paths a b same n t line (λ far path. let w = over.early far path in omega arith)) over.overflows.full.changes);
             many = over.overflows.full.many;
           };
         };
@@ -94,5 +93,5 @@ module _ {M : Type 0} (s : Setup M) where
           subst (λ from. Changes (Still s b n) (settled s.net b n) from ts) same.trims
           (subst (λ to. Changes (Still s b n) to a.trim ts) (times_equal n line) (alike (λ t from to. still_alike s a b n t (initials_equal a b same n line) (λ u upto. values_equal n u line (omega arith))) kept))
 
-      pub alike_rests_agree : Agree s a b
-      alike_rests_agree = record { settled_times = times_equal; initial_values = initials_equal a b same; values = values_equal; kept_changes = kept_equal }
+      pub agree : Agree s a b
+      agree = record { settled_times = times_equal; initial_values = initials_equal a b same; values = values_equal; kept_changes = kept_equal }

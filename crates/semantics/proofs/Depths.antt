@@ -1,13 +1,14 @@
 -- How deep a gate line lies that is not looped: how many lines lead to it.
-use Rattle.std.proofs.Common.{◌≡◌, ℕ, zero, suc, ◌+◌, ◌<◌, ◌≤◌, Bool, true, false, cond, ◌⊎◌, refl, ap, sym, ◌∙◌, subst, inl, inr, ⊎_elim, arith}
-use Rattle.std.proofs.lemmas.Bool.{cases_lt, cases_eq, cases_Bool, both_ways}
+use Rattle.std.proofs.Common.{◌≡◌, ℕ, zero, suc, ◌+◌, ◌<◌, ◌≤◌, Bool, true, false, cond, refl, ap, ◌∙◌, subst, ⊎_elim, arith}
+use Rattle.std.proofs.lemmas.Bool.{cases_eq, cases_Bool, both_ways}
 use Rattle.netlist.specs.Gates.{Circuit}
 use Rattle.netlist.specs.Walks.{Reads, Walk}
 use Rattle.netlist.proofs.Searching.{joined}
-use Rattle.semantics.specs.Nets.{Driver, Gate, Line, Input}
+use Rattle.semantics.specs.Nets.{Driver, Gate, Input}
 use Rattle.semantics.specs.Nets.Driver.{nothing, input, gate}
-use Rattle.semantics.specs.Circuits.{lines, driver, net, Wired, looped}
-use Rattle.semantics.proofs.Looping.{to, to_passes, to_walks, looped_walks}
+use Rattle.semantics.specs.Circuits.{lines, driver, net, Wired}
+use Rattle.semantics.specs.Computed.{looped}
+use Rattle.semantics.proofs.Looping.{to, to_passes, to_walks}
 use Rattle.semantics.proofs.Wiring.{gate_range, line_range, read_line}
 
 one_if : Bool → ℕ

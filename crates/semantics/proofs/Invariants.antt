@@ -1,15 +1,15 @@
 -- What holds in every log, and what stays from one account of a log to the next.
-use Rattle.std.proofs.Common.{◌≡◌, ◌↔◌, ℕ, zero, suc, ◌+◌, ◌<◌, ◌≤◌, Bool, true, false, cond, eqb, ltb, ◌⊎◌, List, [], ◌∷◌, length, refl, ap, sym, ◌∙◌, subst, inl, inr, ⊎_elim, arith}
-use Rattle.std.proofs.lemmas.Bool.{cases_lt, cases_eq, lt-ltb, le-ltb, eq-eqb, ne_eqb, cond-true, cond-false}
-use Rattle.semantics.specs.Nets.{Net, Rule, Setup, Input, Gate, Line, Reads, Sound}
-use Rattle.semantics.specs.Changes.{Steady, Changes, AtMost, Exactly}
-use Rattle.semantics.specs.Changes.Changes.{none, next}
+use Rattle.std.proofs.Common.{◌≡◌, ◌↔◌, ℕ, zero, suc, ◌+◌, ◌<◌, ◌≤◌, cond, ltb, [], refl, ap, sym, ◌∙◌, subst, ⊎_elim, arith}
+use Rattle.std.proofs.lemmas.Bool.{cases_eq, lt-ltb, le-ltb, eq-eqb, ne_eqb}
+use Rattle.semantics.specs.Nets.{Setup, Input, Gate, Line, Reads}
+use Rattle.semantics.specs.Changes.{Steady, AtMost}
+use Rattle.semantics.specs.Changes.Changes.{none}
 use Rattle.semantics.specs.Nets.Driver.{nothing}
-use Rattle.semantics.specs.Accounts.{Account, settled, goal, initial, value, before, Still, Overflows}
+use Rattle.semantics.specs.Accounts.{Account, settled, initial, value, before, Still}
 use Rattle.semantics.specs.Comparisons.{Stays}
-use Rattle.semantics.specs.Moves.{put, made, fed, held, taken, trimmed, CanFeed, CanHold, CanTake, CanTrim, Takeable, ComesFirst, Rest}
+use Rattle.semantics.specs.Moves.{put, made, fed, held, taken, trimmed, CanFeed, CanHold, CanTake, CanTrim}
 use Rattle.semantics.specs.Logs.{Takes, Run, Step, Steps, Log}
-use Rattle.semantics.proofs.Goals.{settled_input, settled_gate, settled_nothing, not_both, cases_driver, goal_each}
+use Rattle.semantics.proofs.Goals.{settled_input, settled_gate, settled_nothing, cases_driver, goal_each}
 use Rattle.semantics.proofs.Listing.{onward, later, alike}
 use Rattle.semantics.proofs.Locality.{Horizon, Local}
 
@@ -19,6 +19,7 @@ pub record Held {M : Type 0} (s : Setup M) (a : Account M) : Type 0 where
   pub fits : (n : ℕ) → AtMost s.room (Still s a n) a.trim (settled s.net a n)
   pub input_reaches : (n : ℕ) → Input s.net n → a.trim ≤ a.end n
   pub front_reaches : (n : ℕ) → Gate s.net n → a.trim ≤ a.front n
+  pub ends_in_time : (n : ℕ) → Input s.net n → a.end n ≤ 2000000000
   pub input_keeps : (n t : ℕ) → Input s.net n → a.end n ≤ t → Still s a n t
 
 module _ {M : Type 0} (s : Setup M) where
@@ -52,6 +53,11 @@ put_here f n x = ap (λ b. cond b x (f n)) (eq-eqb n n refl)
 pub put_there : {X : Type 0} (f : ℕ → X) (n : ℕ) (x : X) (m : ℕ) → (m ≡ n → ⊥) → put f n x m ≡ f m
 put_there f n x m other = ap (λ b. cond b x (f m)) (ne_eqb m n other)
 
+-- what holds of the new answer and of the old ones holds of each
+pub put_where : {X : Type 0} (P : X → Type 0) (f : ℕ → X) (n : ℕ) (x : X) (m : ℕ) → P x → P (f m) → P (put f n x m)
+put_where P f n x m new old =
+    ⊎_elim (λ same. subst (λ k. P (put f n x k)) (sym same) (subst P (sym (put_here f n x)) new)) (λ other. subst P (sym (put_there f n x m other)) old) (cases_eq m n)
+
 pub put_grows : (f : ℕ → ℕ) (n x : ℕ) → f n ≤ x → (m : ℕ) → f m ≤ put f n x m
 put_grows f n x more m =
     ⊎_elim (λ same. subst (λ k. f k ≤ put f n x k) (sym same) (subst (λ y. f n ≤ y) (sym (put_here f n x)) more))
@@ -63,14 +69,14 @@ module _ {M : Type 0} (s : Setup M) where
   settled_grows a b ends fronts n =
       ⊎_elim
       (⊎_elim (λ an_input. let e = ends n in rw (settled_input s.net a n an_input, settled_input s.net b n an_input) e)
-          (λ a_gate. let f = fronts n in rw (settled_gate s.net a n a_gate, settled_gate s.net b n a_gate) (omega arith)))
+      (λ a_gate. let f = fronts n in rw (settled_gate s.net a n a_gate, settled_gate s.net b n a_gate) (omega arith)))
       (λ none. rw (settled_nothing s.net a n none) (omega arith)) (cases_driver s.net n)
 
   settled_same : (a b : Account M) (n : ℕ) → a.end n ≡ b.end n → a.front n ≡ b.front n → settled s.net a n ≡ settled s.net b n
   settled_same a b n ends fronts =
       ⊎_elim
       (⊎_elim (λ an_input. settled_input s.net a n an_input ∙ (ends ∙ sym (settled_input s.net b n an_input)))
-          (λ a_gate. settled_gate s.net a n a_gate ∙ (ap (λ x. x + s.net.lag n) fronts ∙ sym (settled_gate s.net b n a_gate))))
+      (λ a_gate. settled_gate s.net a n a_gate ∙ (ap (λ x. x + s.net.lag n) fronts ∙ sym (settled_gate s.net b n a_gate))))
       (λ none. settled_nothing s.net a n none ∙ sym (settled_nothing s.net b n none)) (cases_driver s.net n)
 
   -- a line of which nothing is settled has room for all its changes
@@ -84,7 +90,7 @@ module _ {M : Type 0} (s : Setup M) where
     quiet_beyond fronts n t from to =
         ⊎_elim
         (⊎_elim (λ an_input. let is = settled_input s.net a n an_input in h.input_keeps n t an_input (omega arith))
-            (λ a_gate. let e = fronts n in absurd (omega (arith, settled_gate s.net a n a_gate, settled_gate s.net b n a_gate))))
+        (λ a_gate. let e = fronts n in absurd (omega (arith, settled_gate s.net a n a_gate, settled_gate s.net b n a_gate))))
         (λ none. absurd (omega (arith, settled_nothing s.net b n none))) (cases_driver s.net n)
 
 -- the record of what holds after a call, and what stays
@@ -112,6 +118,7 @@ module _ {M : Type 0} (s : Setup M) where
         fits = λ m. fits_on a m (settled s.net a m) (settled s.net (held a n t) m) (grows m) (quiet_beyond s a (held a n t) h (λ k. refl) m) (h.fits m);
         input_reaches = λ m an_input. let e = ends m in let r = h.input_reaches m an_input in omega arith;
         front_reaches = h.front_reaches;
+        ends_in_time = λ m an_input. put_where (λ end. end ≤ 2000000000) a.end n t m c.in_time (h.ends_in_time m an_input);
         input_keeps = λ m u an_input from. let e = ends m in h.input_keeps m u an_input (omega arith);
       }
 
@@ -147,6 +154,7 @@ module _ {M : Type 0} (s : Setup M) where
         fits = fits_after;
         input_reaches = h.input_reaches;
         front_reaches = λ m a_gate. let f = fronts m in let r = h.front_reaches m a_gate in omega arith;
+        ends_in_time = h.ends_in_time;
         input_keeps = h.input_keeps;
       }
 
@@ -157,6 +165,7 @@ module _ {M : Type 0} (s : Setup M) where
       fits = λ n. let rest = later t c.not_past (h.fits n).changes in record { ticks = rest.ticks; changes = rest.changes; few = omega (arith, rest.fewer, (h.fits n).few) };
       input_reaches = c.ends_reach;
       front_reaches = c.fronts_reach;
+      ends_in_time = h.ends_in_time;
       input_keeps = h.input_keeps;
     };
     stays = record { settled_times = λ n. omega arith; initial_values = λ n line. refl; values = λ n u line within. refl };
@@ -242,6 +251,7 @@ module _ {M : Type 0} (s : Setup M) (local : Local s.net s.rule) (a : Account M)
       fits = feed_fits;
       input_reaches = λ m an_input. let e = feed_ends m in let r = h.input_reaches m an_input in omega arith;
       front_reaches = h.front_reaches;
+      ends_in_time = λ m an_input. put_where (λ end. end ≤ 2000000000) a.end n (t + 1) m (omega (arith, c.in_time)) (h.ends_in_time m an_input);
       input_keeps = feed_keeps;
     };
     stays = feed_stays;
@@ -260,8 +270,8 @@ module _ {M : Type 0} (s : Setup M) (local : Local s.net s.rule) where
   made_steady start n line t from within =
       ⊎_elim (made_keeps start n t)
       (λ a_gate.
-         let e = settled_gate s.net (made start) n a_gate in
-         steady_at (made start) n t (s.rule.initial start n) refl (λ u upto. local.gate_waits start (λ m w. start m) n u a_gate (omega arith)))
+      let e = settled_gate s.net (made start) n a_gate in
+      steady_at (made start) n t (s.rule.initial start n) refl (λ u upto. local.gate_waits start (λ m w. start m) n u a_gate (omega arith)))
       line
 
   pub made_held : (start : ℕ → M) → Held s (made start)
@@ -270,6 +280,7 @@ module _ {M : Type 0} (s : Setup M) (local : Local s.net s.rule) where
     fits = λ n. ⊎_elim (λ line. record { ticks = []; changes = none (made_steady start n line); few = omega arith }) (fits_nothing s (made start) n) (cases_driver s.net n);
     input_reaches = λ n an_input. omega arith;
     front_reaches = λ n a_gate. omega arith;
+    ends_in_time = λ n an_input. omega arith;
     input_keeps = λ n t an_input from. made_keeps start n t an_input;
   }
 

@@ -1,5 +1,7 @@
 pub mod Agreeing
+pub mod Computing
 pub mod Depths
+pub mod Doubting
 pub mod Goals
 pub mod Invariants
 pub mod Listing
@@ -12,3 +14,4 @@ pub mod Ruling
 pub mod Settling
 pub mod Tying
 pub mod Wiring
+pub mod Working

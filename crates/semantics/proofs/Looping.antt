@@ -1,12 +1,13 @@
 -- The test of walks tells which lines lead to which.
-use Rattle.std.proofs.Common.{◌≡◌, ℕ, zero, suc, ◌+◌, ◌<◌, ◌≤◌, Bool, true, false, ◌&&◌, ◌||◌, eqb, ◌⊎◌, length, get_or, refl, ap, sym, ◌∙◌, subst, inl, inr, ⊎_elim, arith}
-use Rattle.std.proofs.lemmas.Bool.{cases_lt, cases_Bool, eqb-true, eq-eqb, and_parts, and_from, or_cases, both_ways}
+use Rattle.std.proofs.Common.{◌≡◌, ℕ, zero, suc, ◌<◌, ◌≤◌, Bool, true, false, ◌&&◌, ◌||◌, eqb, ◌⊎◌, length, get_or, refl, ap, subst, inl, inr, ⊎_elim, arith}
+use Rattle.std.proofs.lemmas.Bool.{cases_lt, eqb-true, eq-eqb, and_parts, and_from, or_cases, both_ways}
 use Rattle.std.proofs.lemmas.List.Folds.{Any-from_list_any, list_any_at}
 use Rattle.netlist.specs.Gates.{Circuit}
 use Rattle.netlist.specs.Walks.{reads, Reads, Walk, Looped}
 use Rattle.netlist.proofs.Reading.{reads_past}
 use Rattle.netlist.proofs.Searching.{joined}
-use Rattle.semantics.specs.Circuits.{lines, leads, looped}
+use Rattle.semantics.specs.Circuits.{lines}
+use Rattle.semantics.specs.Computed.{leads, looped}
 use Rattle.semantics.proofs.Wiring.{reads_of}
 
 module _ (c : Circuit) where

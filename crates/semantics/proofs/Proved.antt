@@ -1,12 +1,15 @@
--- The laws, proved from what the rule of a circuit is.
-use Rattle.std.proofs.Common.{◌≡◌, ℕ, List}
+-- The laws, for the rule of circuits.
+use Rattle.std.proofs.Common.{ℕ}
 use Rattle.netlist.specs.Gates.{Circuit}
-use Rattle.values.specs.Systems.{System}
 use Rattle.values.specs.Relations.{Kept}
-use Rattle.semantics.specs.Circuits.{net, rule, setup, Wired}
-use Rattle.semantics.specs.Laws.{RuleHasOneAnswer, KeptChangesFit, RestIsWhereNoGateCanBeTaken, CallsHaveOneOutcome, SettledValuesStay, SettledIsDistance, AlikeRestsAgree, TiesLines}
-use Rattle.semantics.proofs.Agreeing.{alike_rests_agree}
-use Rattle.semantics.proofs.Invariants.{log_held, steps_go}
+use Rattle.values.specs.Systems.{System}
+use Rattle.semantics.specs.Accounts.{Account}
+use Rattle.semantics.specs.Circuits.{net, Wired}
+use Rattle.semantics.specs.Computed.{rule, setup}
+use Rattle.semantics.specs.Laws.{RuleHasOneAnswer, KeptChangesFit, RestIsWhereNoGateCanBeTaken, CallsHaveOneOutcome, SettledValuesStay, SettledIsTheDistance, AlikeRestsAgree, TiesLines}
+use Rattle.semantics.specs.Logs.{Log}
+use Rattle.semantics.proofs.Agreeing.{agree}
+use Rattle.semantics.proofs.Invariants.{Held, log_held, steps_go}
 use Rattle.semantics.proofs.Listing.{one_list}
 use Rattle.semantics.proofs.Outcomes.{one_front, one_run}
 use Rattle.semantics.proofs.Resting.{resting, none_left}
@@ -15,46 +18,47 @@ use Rattle.semantics.proofs.Settling.{settled_is_distance}
 use Rattle.semantics.proofs.Tying.{lines_tied}
 use Rattle.semantics.proofs.Wiring.{sound}
 
-module _ {M : Type 0} (s : System M) where
-  pub rule_has_one_answer : RuleHasOneAnswer s
-  rule_has_one_answer c wired start wave = record {
+module _ {M : Type 0} (s : System M) (c : Circuit) where
+  pub rule_has_one_answer : Wired c → RuleHasOneAnswer s c
+  rule_has_one_answer wired start wave = record {
     begins = begins s c wired start;
-    only_so = λ other from. only_initials s c wired start other from;
     obeys = obeys s c wired start wave;
-    only_these = λ other values from obeyed. only_values s c wired start other from wave values obeyed;
+    no_other_begins = only_initials s c wired start;
+    no_other_obeys = λ init v from obeyed. only_values s c wired start init from wave v obeyed;
   }
 
-  pub kept_changes_fit : KeptChangesFit s
-  kept_changes_fit c room a wired log = record { some = (log_held (setup s c room) (rule_local s c wired) log).fits; one = λ n ts us kept kept'. one_list kept kept' }
+  module _ (room : ℕ) (wired : Wired c) where
+    pub held : (a : Account M) → Log (setup s c room) a → Held (setup s c room) a
+    held a log = log_held (setup s c room) (rule_local s c wired) log
 
-  pub rest_is_where_no_gate_can_be_taken : RestIsWhereNoGateCanBeTaken s
-  rest_is_where_no_gate_can_be_taken c room a wired log = record {
-    none_at_rest = λ rest n able. resting (setup s c room) a n (rest n able.can.a_gate) able;
-    only_there = none_left (setup s c room) a (log_held (setup s c room) (rule_local s c wired) log) (sound c wired);
-  }
+    pub kept_changes_fit : KeptChangesFit (setup s c room)
+    kept_changes_fit a log = record { in_room = (held a log).fits; one_list = λ n ts us kept other. one_list kept other }
 
-  pub calls_have_one_outcome : CallsHaveOneOutcome s
-  calls_have_one_outcome c room a wired log = record {
-    of_take = one_front (setup s c room) a;
-    of_run = λ most count other rest word b d one two. one_run (setup s c room) one two;
-  }
+    pub rest_is_where_no_gate_can_be_taken : RestIsWhereNoGateCanBeTaken (setup s c room)
+    rest_is_where_no_gate_can_be_taken a log = record {
+      none_at_rest = λ rest n able. resting (setup s c room) a n (rest n able.can.a_gate) able;
+      only_there = none_left (setup s c room) a (held a log) (sound c wired);
+    }
 
-  pub settled_values_stay : SettledValuesStay s
-  settled_values_stay c room a b wired log steps = (steps_go (setup s c room) (rule_local s c wired) (log_held (setup s c room) (rule_local s c wired) log) steps).stays
+    pub calls_have_one_outcome : CallsHaveOneOutcome (setup s c room)
+    calls_have_one_outcome a log = record { of_take = one_front (setup s c room) a; of_run = λ most count other rest word b d one two. one_run (setup s c room) one two }
 
-  pub settled_is_the_distance : SettledIsDistance s
-  settled_is_the_distance c room a wired log rest = settled_is_distance (setup s c room) a (log_held (setup s c room) (rule_local s c wired) log) (sound c wired) rest
+    pub settled_values_stay : SettledValuesStay (setup s c room)
+    settled_values_stay a b log steps = (steps_go (setup s c room) (rule_local s c wired) (held a log) steps).stays
 
-  pub alike_rests_agreed : AlikeRestsAgree s
-  alike_rests_agreed c room a b wired log log' rest rest' alike =
-      alike_rests_agree (setup s c room) (sound c wired) (rule_local s c wired) a b (log_held (setup s c room) (rule_local s c wired) log) (log_held (setup s c room) (rule_local s c wired) log') rest rest' alike
+    pub settled_is_the_distance : SettledIsTheDistance (setup s c room)
+    settled_is_the_distance a log rest = settled_is_distance (setup s c room) a (held a log) (sound c wired) rest
 
-pub ties_lines : {M N : Type 0} (s : System M) (q : System N) (R : M → N → Type 0) → Kept s q R → TiesLines s q R
-ties_lines s q R kept c room other a b wired log log' given =
-    lines_tied (net c) (rule s c) (rule q c) room other R (rule_carries s q c wired R kept) a b (log_held (setup s c room) (rule_local s c wired) log) (log_held (setup q c other) (rule_local q c wired) log') given
+    pub alike_rests_agree : AlikeRestsAgree (setup s c room)
+    alike_rests_agree a b log other rest other_rest alike = agree (setup s c room) (sound c wired) (rule_local s c wired) a b (held a log) (held b other) rest other_rest alike
 
--- where one relation is as another, it ties as the other does
-pub tied_as : {M N : Type 0} (s : System M) (q : System N) (R P : M → N → Type 0) → ((m : M) (n : N) → P m n → R m n) → ((m : M) (n : N) → R m n → P m n) → TiesLines s q R → TiesLines s q P
-tied_as s q R P to back ties c room other a b wired log log' given =
-    let tied = ties c room other a b wired log log' (record { starts = λ n an_input. to _ _ (given.starts n an_input); waves = λ n t an_input here there. to _ _ (given.waves n t an_input here there) }) in
-    record { initial_values = λ n line. back _ _ (tied.initial_values n line); values = λ n t line here there. back _ _ (tied.values n t line here there) }
+module _ {M N : Type 0} (s : System M) (q : System N) (c : Circuit) (room other : ℕ) where
+  pub ties_lines : Wired c → (R : M → N → Type 0) → Kept s q R → TiesLines (setup s c room) (setup q c other) R
+  ties_lines wired R kept a b log log' given =
+      lines_tied (net c) (rule s c) (rule q c) room other R (rule_carries s q c wired R kept) a b (held s c room wired a log) (held q c other wired b log') given
+
+  -- where one relation is as another, it ties as the other does
+  pub tied_as : (R P : M → N → Type 0) → ((m : M) (n : N) → P m n → R m n) → ((m : M) (n : N) → R m n → P m n) → TiesLines (setup s c room) (setup q c other) R → TiesLines (setup s c room) (setup q c other) P
+  tied_as R P to back ties a b log log' given =
+      let tied = ties a b log log' (record { starts = λ n an_input. to _ _ (given.starts n an_input); waves = λ n t an_input here there. to _ _ (given.waves n t an_input here there) }) in
+      record { initial_values = λ n line. back _ _ (tied.initial_values n line); values = λ n t line here there. back _ _ (tied.values n t line here there) }

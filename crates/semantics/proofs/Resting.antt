@@ -1,11 +1,11 @@
 -- At rest no gate can be taken; and where it can be told which lines change, some gate can be taken where there is no rest.
-use Rattle.std.proofs.Common.{◌≡◌, ℕ, zero, suc, ◌+◌, ◌-◌, ◌<◌, ◌≤◌, ◌⊎◌, ◌++◌, [], ◌∷◌, length, refl, ap, sym, ◌∙◌, subst, inl, inr, ⊎_elim, arith, length-append, add-zero}
-use Rattle.std.proofs.lemmas.Bool.{cases_lt, cases_eq}
-use Rattle.semantics.specs.Nets.{Setup, Input, Gate, Line, Reads, Sound}
-use Rattle.semantics.specs.Changes.{Steady, AtMost, Exactly}
-use Rattle.semantics.specs.Accounts.{Account, settled, goal, Still, Overflows}
-use Rattle.semantics.specs.Moves.{CanTake, Takeable, Rests, Rest}
-use Rattle.semantics.proofs.Goals.{settled_gate, goal_each, goal_attained}
+use Rattle.std.proofs.Common.{◌≡◌, ℕ, zero, suc, ◌+◌, ◌-◌, ◌<◌, ◌≤◌, ◌⊎◌, ◌++◌, [], ◌∷◌, length, refl, sym, subst, inl, inr, ⊎_elim, arith, length-append, add-zero}
+use Rattle.std.proofs.lemmas.Bool.{cases_lt}
+use Rattle.semantics.specs.Nets.{Setup, Gate, Line, Sound}
+use Rattle.semantics.specs.Changes.{Steady, AtMost}
+use Rattle.semantics.specs.Accounts.{Account, goal, Still, Overflows}
+use Rattle.semantics.specs.Moves.{Takeable, Rests, Rest}
+use Rattle.semantics.proofs.Goals.{settled_gate, goal_attained}
 use Rattle.semantics.proofs.Listing.{no_room, onward, one_more}
 use Rattle.semantics.proofs.Invariants.{Held}
 
@@ -38,7 +38,7 @@ module _ {M : Type 0} (s : Setup M) (a : Account M) where
         roomy some =
             let same : suc (at + s.net.lag n) ≡ suc at + s.net.lag n = omega arith in
             onto (subst (AtMost s.room (Still s a n) a.trim) same
-              (record { ticks = fits.ticks ++ (at + s.net.lag n) ∷ []; changes = one_more reaches changes fits.changes; few = rw length-append (omega arith) }))
+            (record { ticks = fits.ticks ++ (at + s.net.lag n) ∷ []; changes = one_more reaches changes fits.changes; few = rw length-append (omega arith) }))
 
         full : s.room ≤ length fits.ticks → Reached n (suc at)
         full none =

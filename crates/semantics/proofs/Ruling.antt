@@ -1,17 +1,18 @@
 -- The functions that compute initial values and values obey the rule, and so does nothing else: what obeys the rule in two
 -- systems is tied by every kept relation.
-use Rattle.std.proofs.Common.{◌≡◌, ℕ, zero, suc, ◌+◌, ◌-◌, ◌<◌, ◌≤◌, Bool, true, false, cond, ltb, ◌⊎◌, List, [], ◌∷◌, map, length, get_or, refl, ap, sym, ◌∙◌, subst, inl, inr, ⊎_elim, arith, Contains}
+use Rattle.std.proofs.Common.{◌≡◌, ℕ, zero, suc, ◌+◌, ◌-◌, ◌<◌, ◌≤◌, Bool, true, false, ltb, List, [], ◌∷◌, map, refl, ap, sym, ◌∙◌, subst, inl, inr, ⊎_elim, arith, Contains}
 use Rattle.std.specs.List.{AllZip}
 use Rattle.std.proofs.lemmas.Bool.{cases_lt, cases_Bool, lt-ltb, le-ltb}
 use Rattle.netlist.specs.Gates.{Circuit}
-use Rattle.netlist.specs.Walks.{reads, Looped}
+use Rattle.netlist.specs.Walks.{reads}
 use Rattle.values.specs.Systems.{System}
 use Rattle.values.specs.Relations.{Kept}
 use Rattle.gates.specs.Functions.{gate_function}
 use Rattle.gates.proofs.Ties.{gates_tied}
-use Rattle.semantics.specs.Nets.{Driver, Net, Rule, Input, Gate, Line, Reads}
+use Rattle.semantics.specs.Nets.{Driver, Input, Gate, Line}
 use Rattle.semantics.specs.Nets.Driver.{nothing, input, gate}
-use Rattle.semantics.specs.Circuits.{lines, gate_of_line, driver, net, Wired, looped, begin, begin_to, initial, follow, follow_to, value, rule}
+use Rattle.semantics.specs.Circuits.{lines, gate_of_line, net, Wired}
+use Rattle.semantics.specs.Computed.{looped, begin, begin_to, initial, follow, follow_to, value, rule}
 use Rattle.semantics.specs.Rules.{Begins, Obeys}
 use Rattle.semantics.proofs.Depths.{depth, depth_bound, depth_falls}
 use Rattle.semantics.proofs.Locality.{Horizon, Carries, Local}
@@ -64,10 +65,10 @@ module _ {M : Type 0} (s : System M) (c : Circuit) (wired : Wired c) (start : �
   stable (suc far) n line within =
       ⊎_elim (λ an_input. begin_input (begin_to s c start far) n an_input ∙ sym (begin_input (begin_to s c start (suc far)) n an_input))
       (λ a_gate. ⊎_elim (λ loop. begin_looped (begin_to s c start far) n a_gate loop ∙ sym (begin_looped (begin_to s c start (suc far)) n a_gate loop))
-         (λ none.
-            begin_other (begin_to s c start far) n a_gate none ∙ (gates_equal s (gate_of_line c n).kind (begin_to s c start far) (begin_to s c start (suc far)) (reads c n)
-              (λ m read. stable far m (read_line n m a_gate read) (let falls = depth_falls c wired n m a_gate none (reads_of c n m read) in omega arith)) ∙ sym (begin_other (begin_to s c start (suc far)) n a_gate none)))
-         (cases_Bool (looped c n)))
+      (λ none.
+      begin_other (begin_to s c start far) n a_gate none ∙ (gates_equal s (gate_of_line c n).kind (begin_to s c start far) (begin_to s c start (suc far)) (reads c n)
+      (λ m read. stable far m (read_line n m a_gate read) (let falls = depth_falls c wired n m a_gate none (reads_of c n m read) in omega arith)) ∙ sym (begin_other (begin_to s c start (suc far)) n a_gate none)))
+      (cases_Bool (looped c n)))
       line
 
   initial_begun : (n : ℕ) → Line (net c) n → initial s c start n ≡ begin s c start (initial s c start) n
@@ -103,11 +104,11 @@ module _ {M : Type 0} (s : System M) (c : Circuit) (wired : Wired c) (start : �
     follow_alike known other n t line same =
         ⊎_elim (λ an_input. follow_input known n t an_input ∙ sym (follow_input other n t an_input))
         (λ a_gate. ⊎_elim (λ early. follow_early known n t a_gate early ∙ sym (follow_early other n t a_gate early))
-           (λ late.
-              let time = gate_time c wired n a_gate in
-              let u : ℕ = t - (gate_of_line c n).delay in
-              follow_later known n t a_gate late ∙ (gates_equal s (gate_of_line c n).kind (λ m. known m u) (λ m. other m u) (reads c n) (λ m read. same m u (read_line n m a_gate read) (omega arith)) ∙ sym (follow_later other n t a_gate late)))
-           (cases_lt t (gate_of_line c n).delay))
+        (λ late.
+        let time = gate_time c wired n a_gate in
+        let u : ℕ = t - (gate_of_line c n).delay in
+        follow_later known n t a_gate late ∙ (gates_equal s (gate_of_line c n).kind (λ m. known m u) (λ m. other m u) (reads c n) (λ m read. same m u (read_line n m a_gate read) (omega arith)) ∙ sym (follow_later other n t a_gate late)))
+        (cases_lt t (gate_of_line c n).delay))
         line
 
     -- beyond the tick, how deep makes no difference
@@ -127,9 +128,9 @@ module _ {M : Type 0} (s : System M) (c : Circuit) (wired : Wired c) (start : �
       at_inputs = λ n t an_input. value_followed n t (inl an_input) ∙ follow_input (value s c start wave) n t an_input;
       below_delay = λ n t a_gate early. value_followed n t (inr a_gate) ∙ follow_early (value s c start wave) n t a_gate early;
       one_delay_later = λ n t a_gate.
-        let d : ℕ = (gate_of_line c n).delay in
-        let same : t + d - d ≡ t = omega arith in
-        value_followed n (t + d) (inr a_gate) ∙ (follow_later (value s c start wave) n (t + d) a_gate (omega arith) ∙ ap (λ u. gate_function s (gate_of_line c n).kind (map (λ m. value s c start wave m u) (reads c n))) same);
+          let d : ℕ = (gate_of_line c n).delay in
+          let same : t + d - d ≡ t = omega arith in
+          value_followed n (t + d) (inr a_gate) ∙ (follow_later (value s c start wave) n (t + d) a_gate (omega arith) ∙ ap (λ u. gate_function s (gate_of_line c n).kind (map (λ m. value s c start wave m u) (reads c n))) same);
     }
 
 module _ {M N : Type 0} (s : System M) (q : System N) (c : Circuit) (wired : Wired c) (R : M → N → Type 0) (kept : Kept s q R) where
@@ -149,11 +150,11 @@ module _ {M N : Type 0} (s : System M) (q : System N) (c : Circuit) (wired : Wir
     begun_tied (suc far) n line within =
         ⊎_elim (λ an_input. across (left.at_inputs n an_input) (right.at_inputs n an_input) (starts n an_input))
         (λ a_gate. ⊎_elim (λ loop. let walk = looped_walks c n loop in across (left.at_looped n a_gate walk) (right.at_looped n a_gate walk) kept.start)
-           (λ none.
-              let free = not_looped c n none in
-              across (left.at_others n a_gate free) (right.at_others n a_gate free)
-              (shows_tied n init init' (λ m read. begun_tied far m (reads_line n m a_gate read) (let falls = depth_falls c wired n m a_gate none (reads_of c n m read) in omega arith))))
-           (cases_Bool (looped c n)))
+        (λ none.
+        let free = not_looped c n none in
+        across (left.at_others n a_gate free) (right.at_others n a_gate free)
+        (shows_tied n init init' (λ m read. begun_tied far m (reads_line n m a_gate read) (let falls = depth_falls c wired n m a_gate none (reads_of c n m read) in omega arith))))
+        (cases_Bool (looped c n)))
         line
 
     pub initials_tied : (n : ℕ) → Line (net c) n → R (init n) (init' n)
@@ -165,14 +166,14 @@ module _ {M N : Type 0} (s : System M) (q : System N) (c : Circuit) (wired : Wir
       obeyed_tied (suc far) n t line before within =
           ⊎_elim (λ an_input. across (one.at_inputs n t an_input) (other.at_inputs n t an_input) (waves n t an_input within))
           (λ a_gate. ⊎_elim (λ early. across (one.below_delay n t a_gate early) (other.below_delay n t a_gate early) (initials_tied n (inr a_gate)))
-             (λ late.
-                let time = gate_time c wired n a_gate in
-                let u : ℕ = t - (gate_of_line c n).delay in
-                let same : u + (gate_of_line c n).delay ≡ t = omega arith in
-                subst (λ x. R (v n x) (w n x)) same
-                (across (one.one_delay_later n u a_gate) (other.one_delay_later n u a_gate)
-                  (shows_tied n (λ m. v m u) (λ m. w m u) (λ m read. obeyed_tied far m u (reads_line n m a_gate read) (omega arith) (horizon.back n m u a_gate read (subst (Within n) (sym same) within))))))
-             (cases_lt t (gate_of_line c n).delay))
+          (λ late.
+          let time = gate_time c wired n a_gate in
+          let u : ℕ = t - (gate_of_line c n).delay in
+          let same : u + (gate_of_line c n).delay ≡ t = omega arith in
+          subst (λ x. R (v n x) (w n x)) same
+          (across (one.one_delay_later n u a_gate) (other.one_delay_later n u a_gate)
+          (shows_tied n (λ m. v m u) (λ m. w m u) (λ m read. obeyed_tied far m u (reads_line n m a_gate read) (omega arith) (horizon.back n m u a_gate read (subst (Within n) (sym same) within))))))
+          (cases_lt t (gate_of_line c n).delay))
           line
 
       pub values_tied : (n t : ℕ) → Line (net c) n → Within n t → R (v n t) (w n t)
@@ -182,8 +183,8 @@ module _ {M N : Type 0} (s : System M) (q : System N) (c : Circuit) (wired : Wir
   rule_carries = record {
     initial = λ start begin starts. initials_tied start (initial s c start) begin (initial q c begin) (begins s c wired start) (begins q c wired begin) starts;
     value = λ start begin wave swell starts Within horizon waves.
-      values_tied start (initial s c start) begin (initial q c begin) (begins s c wired start) (begins q c wired begin) starts wave (value s c start wave) swell (value q c begin swell) (obeys s c wired start wave)
-      (obeys q c wired begin swell) Within horizon waves;
+        values_tied start (initial s c start) begin (initial q c begin) (begins s c wired start) (begins q c wired begin) starts wave (value s c start wave) swell (value q c begin swell) (obeys s c wired start wave)
+        (obeys q c wired begin swell) Within horizon waves;
   }
 
 pub rule_local : {M : Type 0} (s : System M) (c : Circuit) → Wired c → Local (net c) (rule s c)

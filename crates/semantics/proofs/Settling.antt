@@ -1,5 +1,5 @@
 -- At rest every line is settled just to its distance.
-use Rattle.std.proofs.Common.{◌≡◌, ℕ, zero, suc, ◌+◌, ◌<◌, ◌≤◌, ◌⊎◌, refl, ap, sym, ◌∙◌, subst, inl, inr, ⊎_elim, arith}
+use Rattle.std.proofs.Common.{◌≡◌, ℕ, zero, suc, ◌+◌, ◌<◌, ◌≤◌, sym, subst, ⊎_elim, arith}
 use Rattle.std.proofs.lemmas.Bool.{cases_lt}
 use Rattle.semantics.specs.Nets.{Setup, Input, Gate, Line, Reads, Sound}
 use Rattle.semantics.specs.Accounts.{Account, settled, goal, Overflows}
@@ -32,7 +32,7 @@ module _ {M : Type 0} (s : Setup M) (a : Account M) (h : Held s a) where
   limited_bound (LimitedPath.through {m = m} {n = n} {far = far} a_gate read path) = gate_bound n m far a_gate read (limited_bound path)
 
   -- a gate that is full below its goal is overfull at its settled time
-  overfull : (n : ℕ) → Gate s.net n → a.front n < goal s.net a n → Overflows s a n (a.front n + s.net.lag n) → Overfull s a n (a.front n + s.net.lag n)
+  pub overfull : (n : ℕ) → Gate s.net n → a.front n < goal s.net a n → Overflows s a n (a.front n + s.net.lag n) → Overfull s a n (a.front n + s.net.lag n)
   overfull n a_gate below over = record { overflows = over; early = early }
     where
       early : (far : ℕ) → Path s a n far → a.front n + s.net.lag n < far

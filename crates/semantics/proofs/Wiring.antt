@@ -1,17 +1,16 @@
 -- The net of a wired circuit is sound.
-use Rattle.std.proofs.Common.{◌≡◌, ℕ, zero, suc, ◌+◌, ◌-◌, ◌<◌, ◌≤◌, Bool, true, false, cond, ltb, ◌&&◌, ◌⊎◌, [], ◌∷◌, length, get_or, refl, ap, sym, ◌∙◌, subst, inl, inr, ⊎_elim, arith, Contains}
-use Rattle.std.proofs.lemmas.Bool.{ltb-true, ltb-false, lt-ltb, le-ltb, and_parts, cases_lt, leb-true, leb-false}
+use Rattle.std.proofs.Common.{◌≡◌, ℕ, zero, suc, ◌-◌, ◌<◌, ◌≤◌, Bool, true, false, cond, ltb, ◌&&◌, [], ◌∷◌, length, get_or, refl, ap, sym, ◌∙◌, subst, inl, inr, ⊎_elim, arith}
+use Rattle.std.proofs.lemmas.Bool.{ltb-true, ltb-false, lt-ltb, le-ltb, and_parts, cases_lt}
 use Rattle.std.proofs.lemmas.List.Sums.{AllPass-from_list_all}
-use Rattle.std.specs.Int.{is_in_range}
 use Rattle.netlist.specs.declared.kind.Kind.{Kind}
 use Rattle.netlist.specs.declared.kind.Kind.TheVariants.{Buf, Not, And, Or, Xor, Nand, Nor, Xnor}
-use Rattle.netlist.specs.Gates.{Gate as GateRow, Circuit, legal, fits, delay_fits, on_lines}
+use Rattle.netlist.specs.Gates.{Circuit, legal, fits, delay_fits, on_lines}
 use Rattle.netlist.specs.Walks.{no_gate, reads, Reads as ReadsLine}
 use Rattle.netlist.proofs.Ranges.{bounds}
 use Rattle.netlist.proofs.Reading.{reads_at_gate, read_bounds}
-use Rattle.semantics.specs.Nets.{Driver, Net, Input, Gate, Line, Reads, Sound}
+use Rattle.semantics.specs.Nets.{Input, Gate, Line, Reads, Sound}
 use Rattle.semantics.specs.Nets.Driver.{nothing, input, gate}
-use Rattle.semantics.specs.Circuits.{lines, gate_of_line, driver, net, Wired}
+use Rattle.semantics.specs.Circuits.{lines, gate_of_line, net, Wired}
 
 when_gate : (x y : Bool) → cond x input (cond y gate nothing) ≡ gate → (x ≡ false) × (y ≡ true)
 when_gate true y is = cc

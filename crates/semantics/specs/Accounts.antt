@@ -1,7 +1,7 @@
 -- What a session stands for: what it was given, and how far each line is settled.
 use Rattle.std.specs.Prelude.{◌≡◌, ℕ, zero, suc, ◌+◌, ◌≤◌, min, List, [], ◌∷◌, map, fold}
-use Rattle.semantics.specs.Changes.{Changes, AtMost, Exactly}
-use Rattle.semantics.specs.Nets.{Driver, Net, Setup}
+use Rattle.semantics.specs.Changes.{Changes, Exactly}
+use Rattle.semantics.specs.Nets.{Net, Setup}
 use Rattle.semantics.specs.Nets.Driver.{nothing, input, gate}
 
 -- Each input has an initial value, a value at each tick, which from its end on is the last one that it was given, and an

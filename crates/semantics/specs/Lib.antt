@@ -2,9 +2,11 @@ pub mod Accounts
 pub mod Changes
 pub mod Circuits
 pub mod Comparisons
+pub mod Computed
 pub mod Distances
 pub mod Laws
 pub mod Logs
 pub mod Moves
 pub mod Nets
 pub mod Rules
+pub mod Worked

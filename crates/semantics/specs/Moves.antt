@@ -1,8 +1,8 @@
 -- How an account changes, call by call.
-use Rattle.std.specs.Prelude.{◌≡◌, ℕ, ◌+◌, ◌<◌, ◌≤◌, Bool, cond, nat_lt, ◌==◌, ◌⊎◌}
+use Rattle.std.specs.Prelude.{◌≡◌, ℕ, ◌+◌, ◌<◌, ◌≤◌, cond, nat_lt, ◌==◌, ◌⊎◌}
 use Rattle.semantics.specs.Changes.{AtMost}
 use Rattle.semantics.specs.Nets.{Input, Gate, Setup}
-use Rattle.semantics.specs.Accounts.{Account, settled, goal, Still, Overflows}
+use Rattle.semantics.specs.Accounts.{Account, goal, Still, Overflows}
 
 -- a function of lines with another answer for one line
 abbrev pub put : {X : Type 0} → (ℕ → X) → ℕ → X → ℕ → X

@@ -5,3 +5,4 @@
 
 pub mod laws;
 pub mod ties;
+pub mod worked;

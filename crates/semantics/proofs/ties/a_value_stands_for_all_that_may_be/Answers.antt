@@ -8,8 +8,8 @@ use Rattle.values.proofs.Meanings.{related, tied}
 use Rattle.semantics.proofs.Proved.{tied_as}
 use Rattle.semantics.proofs.ties.a_value_stands_for_all_that_may_be.Goals as goal
 
-pub returns-clause-ties_lines : goal.returns-clause-ties_lines
-returns-clause-ties_lines c =
-    tied_as three_valued two_valued (Tied (λ (value : Ternary). value) its_bit (λ value bit. Contains (stands_for value) bit.0)) (λ value bit. Contains (stands_for value) bit)
+pub returns-clause-stands_for_the_bits : goal.returns-clause-stands_for_the_bits
+returns-clause-stands_for_the_bits c circuit room other wired =
+    tied_as three_valued two_valued circuit room other (Tied (λ (value : Ternary). value) its_bit (λ value bit. Contains (stands_for value) bit.0)) (λ value bit. Contains (stands_for value) bit)
     (tied (λ (value : Ternary). value) its_bit (λ value bit. Contains (stands_for value) bit) (λ value. record { value = value; is = refl }) every_bit)
-    (related (λ (value : Ternary). value) its_bit (λ value bit. Contains (stands_for value) bit)) c.kept_relations_tie_lines.ensures.ties_lines
+    (related (λ (value : Ternary). value) its_bit (λ value bit. Contains (stands_for value) bit)) (c.kept_relations_tie_lines.ensures.ties_lines circuit room other wired)

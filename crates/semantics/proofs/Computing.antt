@@ -7,7 +7,7 @@ use Rattle.semantics.specs.Changes.Changes.{none, next}
 
 module _ (quiet : ℕ → Bool) where
   -- the first so many ticks from one on at which it is not quiet
-  unfoldable pub listed : ℕ → ℕ → List ℕ
+  abbrev pub listed : ℕ → ℕ → List ℕ
   listed zero from = []
   listed (suc k) from = cond (quiet from) (listed k (suc from)) (from ∷ listed k (suc from))
 
@@ -27,7 +27,6 @@ module _ (Still : ℕ → Type 0) (quiet : ℕ → Bool) (tells : (t : ℕ) → 
       ⊎_elim (λ is. rw is (begun from ((tells from).0 is) rest)) (λ is. rw is (next {from = from} {t = from} (omega arith) before (λ t t_from t_to. absurd (omega arith)) (loud from is) rest)) (cases_Bool (quiet from))
 
   pub listed_changes : (k from : ℕ) → Changes Still (from + k) from (listed quiet k from)
-  unfolding listed
   listed_changes zero from = none (λ t t_from t_to. absurd (omega arith))
   listed_changes (suc k) from =
       let same : suc from + k ≡ from + suc k = omega arith in

@@ -1,7 +1,6 @@
 pub mod Agreeing
 pub mod Computing
 pub mod Depths
-pub mod Doubting
 pub mod Goals
 pub mod Invariants
 pub mod Listing
@@ -12,6 +11,7 @@ pub mod Proved
 pub mod Resting
 pub mod Ruling
 pub mod Settling
+pub mod Testing
 pub mod Tying
 pub mod Wiring
 pub mod Working

@@ -1,227 +1,153 @@
--- The worked logs, by computing.
-use Rattle.std.proofs.Common.{◌≡◌, ℕ, ◌<◌, ◌≤◌, Bool, true, false, ◌⊎◌, [], ◌∷◌, refl, ap, sym, subst, inl, inr, ⊎_elim, arith}
+-- The worked logs: each of their calls passes its test.
+use Rattle.std.proofs.Common.{◌≡◌, Bool, true, false, cond, ltb, ◌⊎◌, [], ◌∷◌, refl, sym, subst, inl, inr, arith, Contains}
 use Rattle.std.specs.Prelude.{Decides}
 use Rattle.std.specs.Cmp.{booleans_Decides}
 use Rattle.std.proofs.Math.Bool.{beq}
 use Rattle.std.proofs.lemmas.Bool.{cases_Bool, both_ways}
+use Rattle.values.specs.Knowledge.{three_valued, stands_for}
 use Rattle.values.specs.Systems.{two_valued}
-use Rattle.semantics.specs.Nets.{Gate, Setup}
-use Rattle.semantics.specs.Changes.{AtMost}
-use Rattle.semantics.specs.Accounts.{Account, goal, value, before, Still, Kept, Overflows}
-use Rattle.semantics.specs.Circuits.{net}
-use Rattle.semantics.specs.Computed.{setup, initial as initial_value, value as value_at, begin_to, follow_to, looped, leads}
-use Rattle.semantics.specs.Moves.{made, fed, taken, trimmed, CanFeed, CanTake, CanTrim, Takeable, ComesFirst, Rests, Rest}
-use Rattle.semantics.specs.Logs.{Takes, Run, Step, Steps, Log}
-use Rattle.semantics.specs.Worked.{pulse, given, AtRest, full, FullLine, freed, FreedLine, second_first, third_first, EitherFirst}
-use Rattle.semantics.proofs.Computing.{listed, at_most, exactly, computed, loud}
-use Rattle.semantics.proofs.Invariants.{Held, log_held}
-use Rattle.semantics.proofs.Ruling.{rule_local}
+use Rattle.values.specs.declared.ternary.Ternary.{Ternary}
+use Rattle.values.specs.declared.ternary.Ternary.TheVariants.{Zero, One, X}
+use Rattle.semantics.specs.Accounts.{Kept}
+use Rattle.semantics.specs.Computed.{setup, initial, value, begin_to, follow_to, looped, leads}
+use Rattle.semantics.specs.Logs.{Takes, Run, Log}
+use Rattle.semantics.specs.Moves.{trimmed}
+use Rattle.semantics.specs.Worked.{pulse, bits, given, AtRest, full, FullLine, freed, FreedLine, second_first, third_first, EitherFirst, ahead, caught_up, known, KnownLines}
+use Rattle.semantics.proofs.Proved.{held as invariants}
 use Rattle.semantics.proofs.Settling.{overfull}
-use Rattle.semantics.proofs.Wiring.{gate_range, input_range}
+use Rattle.semantics.proofs.Testing.{Equality, quiet, tells, overflows, listed_to, at_rest, begun, then_feed, then_hold, then_take, then_trim, then_run, first_take, to_rest}
+use Rattle.semantics.proofs.Wiring.{input_range}
 
-module _ (room : ℕ) (a : Account Bool) (n : ℕ) where
-  unfoldable pub quiet : ℕ → Bool
-  quiet t = beq (value (setup two_valued pulse room) a n t) (before (setup two_valued pulse room) a n t)
-
-  pub tells : (t : ℕ) → Decides (quiet t) (Still (setup two_valued pulse room) a n t)
-  unfolding quiet
-  tells t = booleans_Decides (value (setup two_valued pulse room) a n t) (before (setup two_valued pulse room) a n t)
+abbrev equal_bits : Equality Bool
+equal_bits = record { same = beq; decides = booleans_Decides }
 
 -- what a test decides can be told
 told : {P : Type 0} (answer : Bool) → Decides answer P → (answer ≡ true) ⊎ (answer ≡ false) → Dec P
 told answer decides (inl is) = yes (decides.0 is)
 told answer decides (inr is) = no (λ p. both_ways answer is (decides.1 p))
 
--- the gates of the pulse are those of lines 2 and 3
-two_gates : (n : ℕ) → Gate (net pulse) n → (n ≡ 2) ⊎ (n ≡ 3)
-two_gates n a_gate = let r = gate_range pulse n a_gate in let low : 1 < n = r.0 in let high : n ≤ 3 = r.1 in grind arith
+-- with room for one change
+full_run : Run (bits 1) 5 given full 2 true
+unfolding initial value begin_to follow_to looped leads
+full_run = to_rest equal_bits two_valued pulse 1 5 refl (first_take equal_bits two_valued pulse 1 2 20 refl refl (first_take equal_bits two_valued pulse 1 3 12 refl refl Takes.none)) refl
 
-module _ (room : ℕ) (some : 1 ≤ room) where
-  abbrev S : Setup Bool
-  S = setup two_valued pulse room
+given_log : Log (bits 1) given
+unfolding initial value begin_to follow_to looped leads
+given_log = then_hold equal_bits two_valued pulse 1 1 20 (then_feed equal_bits two_valued pulse 1 1 10 true (begun equal_bits two_valued pulse 1 (λ n. false)) refl refl) refl
 
-  can_feed : CanFeed S (made (λ n. false)) 1 10 true
-  unfolding quiet listed initial_value value_at begin_to follow_to looped leads
-  can_feed = record {
-    an_input = refl;
-    not_past = omega arith;
-    in_time = omega arith;
-    fits = at_most (Still S (fed (made (λ n. false)) 1 10 true) 1) (quiet room (fed (made (λ n. false)) 1 10 true) 1) (tells room (fed (made (λ n. false)) 1 10 true) 1) 0 11 (10 ∷ []) refl room some;
-  }
-
-  pub given_log : Log S given
-  given_log = record {
-    start = λ n. false;
-    steps = Steps.then (Steps.then Steps.none (Step.feed can_feed)) (Step.hold (record { an_input = refl; not_past = omega arith; in_time = omega arith }));
-  }
-
-  -- line 2 changes at 12 alone
-  take_second : CanTake S given 2 20
-  unfolding quiet listed initial_value value_at begin_to follow_to looped leads
-  take_second = record {
-    a_gate = refl;
-    onward = omega arith;
-    not_beyond = omega arith;
-    fits = at_most (Still S given 2) (quiet room given 2) (tells room given 2) 0 22 (12 ∷ []) refl room some;
-    stops = inl refl;
-  }
-
-  -- after that line 2 is at its goal
-  after_second : (a : Account Bool) (n : ℕ) → a.front 2 ≡ goal (net pulse) a 2 → Takeable S a n → n ≡ 3
-  after_second a n at_goal able = ⊎_elim not_second (λ is. is) (two_gates n able.can.a_gate)
-    where
-      not_second : n ≡ 2 → n ≡ 3
-      not_second is =
-          let can : CanTake S a 2 able.front = subst (λ k. CanTake S a k able.front) is able.can in
-          absurd (omega (arith, at_goal, can.onward, can.not_beyond))
-
-  third_comes : (a : Account Bool) → a.front 2 ≡ goal (net pulse) a 2 → Takeable S a 3 → ComesFirst S a 3
-  third_comes a at_goal able = record {
-    can = able;
-    first = λ m other. let is = after_second a m at_goal other in inr (ap a.front (sym is), omega arith);
-  }
-
-  second_comes : ComesFirst S given 2
-  second_comes = record {
-    can = record { front = 20; can = take_second };
-    first = λ m able. ⊎_elim (λ is. inr (refl, omega arith)) (λ is. inr (refl, omega arith)) (two_gates m able.can.a_gate);
-  }
-
-  all_rest : (a : Account Bool) → Rests S a 2 → Rests S a 3 → Rest S a
-  all_rest a second third n a_gate = ⊎_elim (λ is. subst (Rests S a) (sym is) second) (λ is. subst (Rests S a) (sym is) third) (two_gates n a_gate)
-
-  logged : {a b : Account Bool} → Log S a → Step S a b → Log S b
-  logged log step = record { start = log.start; steps = Steps.then log.steps step }
-
--- with room for one change, wherever the fronts are
-module _ (fronts : ℕ → ℕ) where
-  abbrev at_fronts : Account Bool
-  at_fronts = record given { front = fronts }
-
-  overflows : Overflows (setup two_valued pulse 1) at_fronts 3 13
-  unfolding quiet listed initial_value value_at begin_to follow_to looped leads
-  overflows = record {
-    counts = omega arith;
-    changes = loud (Still (setup two_valued pulse 1) at_fronts 3) (quiet 1 at_fronts 3) (tells 1 at_fronts 3) 13 refl;
-    full = exactly (Still (setup two_valued pulse 1) at_fronts 3) (quiet 1 at_fronts 3) (tells 1 at_fronts 3) 0 13 (11 ∷ []) refl 1 refl;
-  }
-
-take_third : CanTake (setup two_valued pulse 1) (taken given 2 20) 3 12
-unfolding quiet listed initial_value value_at begin_to follow_to looped leads
-take_third = record {
-  a_gate = refl;
-  onward = omega arith;
-  not_beyond = omega arith;
-  fits = at_most (Still (setup two_valued pulse 1) given 3) (quiet 1 given 3) (tells 1 given 3) 0 13 (11 ∷ []) refl 1 (omega arith);
-  stops = inr (overflows (taken given 2 20).front);
-}
-
-full_rests : Rest (setup two_valued pulse 1) full
-full_rests = all_rest 1 (omega arith) full (Rests.idle refl) (Rests.full (omega arith) (overflows full.front))
-
-full_run : Run (setup two_valued pulse 1) 5 given full 2 true
-full_run =
-    Run.rest (Takes.one_more (second_comes 1 (omega arith)) (take_second 1 (omega arith)) (Takes.one_more (third_comes 1 (omega arith) (taken given 2 20) refl (record { front = 12; can = take_third })) take_third Takes.none))
-    (omega arith) full_rests
-
-full_log : Log (setup two_valued pulse 1) full
-full_log = logged 1 (omega arith) (given_log 1 (omega arith)) (Step.run full_run)
-
-full_held : Held (setup two_valued pulse 1) full
-full_held = log_held (setup two_valued pulse 1) (rule_local two_valued pulse refl) full_log
-
-full_kept : Kept (setup two_valued pulse 1) full 3 (11 ∷ [])
-unfolding quiet listed initial_value value_at begin_to follow_to looped leads
-full_kept = computed (Still (setup two_valued pulse 1) full 3) (quiet 1 full 3) (tells 1 full 3) 0 13 (11 ∷ []) refl
+full_rests : AtRest (bits 1) full
+unfolding initial value begin_to follow_to looped leads
+full_rests = record { log = then_run equal_bits two_valued pulse 1 given_log full_run; rest = at_rest equal_bits two_valued pulse 1 full refl }
 
 pub full_line : FullLine
+unfolding initial value begin_to follow_to looped leads
 full_line = record {
   wired = refl;
   runs = full_run;
-  rests = record { log = full_log; rest = full_rests };
-  told = λ n t line. told (quiet 1 full n t) (tells 1 full n t) (cases_Bool (quiet 1 full n t));
-  kept = full_kept;
-  overfull = overfull (setup two_valued pulse 1) full full_held 3 refl (omega arith) (overflows full.front);
+  rests = full_rests;
+  told = λ n t line. told (quiet equal_bits two_valued pulse 1 full n t) (tells equal_bits two_valued pulse 1 full n t) (cases_Bool (quiet equal_bits two_valued pulse 1 full n t));
+  kept = listed_to equal_bits two_valued pulse 1 full 3 13 (11 ∷ []) (omega arith) refl;
+  overfull = overfull (bits 1) full (invariants two_valued pulse 1 refl full full_rests.log) 3 refl (omega arith) (overflows equal_bits two_valued pulse 1 full 3 13 refl);
 }
 
 -- with the first change dropped
-can_trim : CanTrim (setup two_valued pulse 1) full 12
-can_trim = record {
-  not_past = omega arith;
-  ends_reach = λ n an_input. let r = input_range pulse n an_input in let is : n ≡ 1 = omega arith in subst (λ k. 12 ≤ full.end k) (sym is) (omega arith);
-  fronts_reach = λ n a_gate. ⊎_elim (λ is. subst (λ k. 12 ≤ full.front k) (sym is) (omega arith)) (λ is. subst (λ k. 12 ≤ full.front k) (sym is) (omega arith)) (two_gates n a_gate);
-}
-
-take_again : CanTake (setup two_valued pulse 1) (trimmed full 12) 3 20
-unfolding quiet listed initial_value value_at begin_to follow_to looped leads
-take_again = record {
-  a_gate = refl;
-  onward = omega arith;
-  not_beyond = omega arith;
-  fits = at_most (Still (setup two_valued pulse 1) full 3) (quiet 1 full 3) (tells 1 full 3) 12 9 (13 ∷ []) refl 1 (omega arith);
-  stops = inl refl;
-}
-
-freed_rests : Rest (setup two_valued pulse 1) freed
-freed_rests = all_rest 1 (omega arith) freed (Rests.idle refl) (Rests.idle refl)
-
-freed_run : Run (setup two_valued pulse 1) 5 (trimmed full 12) freed 1 true
-freed_run =
-    Run.rest (Takes.one_more (third_comes 1 (omega arith) (trimmed full 12) refl (record { front = 20; can = take_again })) take_again Takes.none) (omega arith) freed_rests
-
-freed_kept : Kept (setup two_valued pulse 1) freed 3 (13 ∷ [])
-unfolding quiet listed initial_value value_at begin_to follow_to looped leads
-freed_kept = computed (Still (setup two_valued pulse 1) freed 3) (quiet 1 freed 3) (tells 1 freed 3) 12 9 (13 ∷ []) refl
+freed_run : Run (bits 1) 5 (trimmed full 12) freed 1 true
+unfolding initial value begin_to follow_to looped leads
+freed_run = to_rest equal_bits two_valued pulse 1 5 refl (first_take equal_bits two_valued pulse 1 3 20 refl refl Takes.none) refl
 
 pub freed_line : FreedLine
+unfolding initial value begin_to follow_to looped leads
 freed_line = record {
   runs = freed_run;
-  rests = record { log = logged 1 (omega arith) (logged 1 (omega arith) full_log (Step.trim can_trim)) (Step.run freed_run); rest = freed_rests };
-  kept = freed_kept;
+  rests = record {
+    log = then_run equal_bits two_valued pulse 1 (then_trim equal_bits two_valued pulse 1 12 full_rests.log refl) freed_run;
+    rest = at_rest equal_bits two_valued pulse 1 freed refl;
+  };
+  kept = listed_to equal_bits two_valued pulse 1 freed 3 21 (13 ∷ []) (omega arith) refl;
 }
 
--- with room for two changes, in either order
-fits_two : AtMost 2 (Still (setup two_valued pulse 2) given 3) 0 21
-unfolding quiet listed initial_value value_at begin_to follow_to looped leads
-fits_two = at_most (Still (setup two_valued pulse 2) given 3) (quiet 2 given 3) (tells 2 given 3) 0 21 (11 ∷ 13 ∷ []) refl 2 (omega arith)
-
-second_first_rests : AtRest 2 second_first
-second_first_rests = record {
-  log =
-      logged 2 (omega arith) (logged 2 (omega arith) (given_log 2 (omega arith)) (Step.take (take_second 2 (omega arith))))
-      (Step.take {front = 20} (record { a_gate = refl; onward = omega arith; not_beyond = omega arith; fits = fits_two; stops = inl refl }));
-  rest = all_rest 2 (omega arith) second_first (Rests.idle refl) (Rests.idle refl);
-}
-
--- line 3 goes to 2 first, as far as line 2 is settled at the making
-take_third_early : CanTake (setup two_valued pulse 2) given 3 2
-unfolding quiet listed initial_value value_at begin_to follow_to looped leads
-take_third_early = record {
-  a_gate = refl;
-  onward = omega arith;
-  not_beyond = omega arith;
-  fits = at_most (Still (setup two_valued pulse 2) given 3) (quiet 2 given 3) (tells 2 given 3) 0 3 [] refl 2 (omega arith);
-  stops = inl refl;
-}
-
-third_first_rests : AtRest 2 third_first
-third_first_rests = record {
-  log =
-      logged 2 (omega arith)
-      (logged 2 (omega arith) (logged 2 (omega arith) (given_log 2 (omega arith)) (Step.take take_third_early))
-      (Step.take {n = 2} {front = 20} (record { a_gate = refl; onward = omega arith; not_beyond = omega arith; fits = (take_second 2 (omega arith)).fits; stops = inl refl })))
-      (Step.take {n = 3} {front = 20} (record { a_gate = refl; onward = omega arith; not_beyond = omega arith; fits = fits_two; stops = inl refl }));
-  rest = all_rest 2 (omega arith) third_first (Rests.idle refl) (Rests.idle refl);
-}
-
-kept_two : Kept (setup two_valued pulse 2) third_first 3 (11 ∷ 13 ∷ [])
-unfolding quiet listed initial_value value_at begin_to follow_to looped leads
-kept_two = computed (Still (setup two_valued pulse 2) third_first 3) (quiet 2 third_first 3) (tells 2 third_first 3) 0 21 (11 ∷ 13 ∷ []) refl
+-- with room for two changes
+given_log_of_two : Log (bits 2) given
+unfolding initial value begin_to follow_to looped leads
+given_log_of_two = then_hold equal_bits two_valued pulse 2 1 20 (then_feed equal_bits two_valued pulse 2 1 10 true (begun equal_bits two_valued pulse 2 (λ n. false)) refl refl) refl
 
 pub either_first : EitherFirst
+unfolding initial value begin_to follow_to looped leads
 either_first = record {
-  one_rests = second_first_rests;
-  other_rests = third_first_rests;
+  one_rests = record {
+    log = then_take equal_bits two_valued pulse 2 3 20 (then_take equal_bits two_valued pulse 2 2 20 given_log_of_two refl) refl;
+    rest = at_rest equal_bits two_valued pulse 2 second_first refl;
+  };
+  other_rests = record {
+    log = then_take equal_bits two_valued pulse 2 3 20 (then_take equal_bits two_valued pulse 2 2 20 (then_take equal_bits two_valued pulse 2 3 2 given_log_of_two refl) refl) refl;
+    rest = at_rest equal_bits two_valued pulse 2 third_first refl;
+  };
   alike = record { starts = λ n an_input. refl; ends = λ n an_input. refl; waves = λ n t an_input within. refl; trims = refl };
-  kept = kept_two;
+  kept = listed_to equal_bits two_valued pulse 2 third_first 3 21 (11 ∷ 13 ∷ []) (omega arith) refl;
+}
+
+-- with a front ahead
+pub ahead_run : Run (bits 2) 5 ahead caught_up 3 true
+unfolding initial value begin_to follow_to looped leads
+ahead_run =
+    to_rest equal_bits two_valued pulse 2 5 refl
+    (first_take equal_bits two_valued pulse 2 3 7 refl refl (first_take equal_bits two_valued pulse 2 2 20 refl refl (first_take equal_bits two_valued pulse 2 3 20 refl refl Takes.none))) refl
+
+-- in three values
+unfoldable same_values : Ternary → Ternary → Bool
+same_values Zero Zero = true
+same_values One One = true
+same_values X X = true
+same_values _ _ = false
+
+values_decided : (x y : Ternary) → Decides (same_values x y) (x ≡ y)
+unfolding same_values
+values_decided Zero Zero = (λ is. refl, λ is. refl)
+values_decided Zero One = (λ is. cc, λ is. cc)
+values_decided Zero X = (λ is. cc, λ is. cc)
+values_decided One Zero = (λ is. cc, λ is. cc)
+values_decided One One = (λ is. refl, λ is. refl)
+values_decided One X = (λ is. cc, λ is. cc)
+values_decided X Zero = (λ is. cc, λ is. cc)
+values_decided X One = (λ is. cc, λ is. cc)
+values_decided X X = (λ is. refl, λ is. refl)
+
+abbrev equal_values : Equality Ternary
+equal_values = record { same = same_values; decides = values_decided }
+
+known_rests : AtRest (setup three_valued pulse 3) known
+unfolding same_values initial value begin_to follow_to looped leads
+known_rests = record {
+  log =
+      then_take equal_values three_valued pulse 3 3 20
+      (then_take equal_values three_valued pulse 3 2 20
+      (then_hold equal_values three_valued pulse 3 1 20
+      (then_feed equal_values three_valued pulse 3 1 10 One (then_feed equal_values three_valued pulse 3 1 0 Zero (begun equal_values three_valued pulse 3 (λ n. X)) refl refl) refl refl) refl) refl) refl;
+  rest = at_rest equal_values three_valued pulse 3 known refl;
+}
+
+pub kept_by_third : Kept (setup three_valued pulse 3) known 3 (1 ∷ 11 ∷ 13 ∷ [])
+unfolding same_values initial value begin_to follow_to looped leads
+kept_by_third = listed_to equal_values three_valued pulse 3 known 3 21 (1 ∷ 11 ∷ 13 ∷ []) (omega arith) refl
+
+-- 0 from tick 0 on, and 1 from tick 10 on, in both
+either_way : (b d : Bool) → Contains (stands_for (cond b (cond d X Zero) One)) (cond b false true)
+either_way true true = (0, omega arith, refl)
+either_way true false = (0, omega arith, refl)
+either_way false d = (0, omega arith, refl)
+
+pub known_lines : KnownLines
+unfolding same_values initial value begin_to follow_to looped leads
+known_lines = record {
+  rests = known_rests;
+  kept_by_first = listed_to equal_values three_valued pulse 3 known 1 20 (0 ∷ 10 ∷ []) (omega arith) refl;
+  kept_by_second = listed_to equal_values three_valued pulse 3 known 2 22 (2 ∷ 12 ∷ []) (omega arith) refl;
+  given_log = given_log;
+  tied = record {
+    starts = λ n an_input. (0, omega arith, refl);
+    waves = λ n t an_input here there.
+        let r = input_range pulse n an_input in
+        let is : n ≡ 1 = omega arith in
+        subst (λ k. Contains (stands_for (known.wave k t)) (given.wave k t)) (sym is) (either_way (ltb t 10) (ltb t 0));
+  };
 }

@@ -11,33 +11,33 @@ module _ (quiet : ℕ → Bool) where
   listed zero from = []
   listed (suc k) from = cond (quiet from) (listed k (suc from)) (from ∷ listed k (suc from))
 
-module _ {Still : ℕ → Type 0} where
+module _ {Stable : ℕ → Type 0} where
   -- a list that begins one tick earlier, where the line is still
-  begun : {to : ℕ} {ts : List ℕ} (from : ℕ) → Still from → Changes Still to (suc from) ts → Changes Still to from ts
-  begun {to = to} from still (none steady) = none (λ t t_from t_to. ⊎_elim (λ same. subst Still same still) (λ other. steady t (omega (arith, other)) t_to) (cases_eq from t))
+  begun : {to : ℕ} {ts : List ℕ} (from : ℕ) → Stable from → Changes Stable to (suc from) ts → Changes Stable to from ts
+  begun {to = to} from still (none steady) = none (λ t t_from t_to. ⊎_elim (λ same. subst Stable same still) (λ other. steady t (omega (arith, other)) t_to) (cases_eq from t))
   begun from still (next t_from t_to first changes rest) =
-      next (omega arith) t_to (λ u u_from u_to. ⊎_elim (λ same. subst Still same still) (λ other. first u (omega (arith, other)) u_to) (cases_eq from u)) changes rest
+      next (omega arith) t_to (λ u u_from u_to. ⊎_elim (λ same. subst Stable same still) (λ other. first u (omega (arith, other)) u_to) (cases_eq from u)) changes rest
 
-module _ (Still : ℕ → Type 0) (quiet : ℕ → Bool) (tells : (t : ℕ) → Decides (quiet t) (Still t)) where
-  pub loud : (t : ℕ) → quiet t ≡ false → Still t → ⊥
+module _ (Stable : ℕ → Type 0) (quiet : ℕ → Bool) (tells : (t : ℕ) → Decides (quiet t) (Stable t)) where
+  pub loud : (t : ℕ) → quiet t ≡ false → Stable t → ⊥
   loud t is still = both_ways (quiet t) is ((tells t).1 still)
 
-  one_earlier : (to from : ℕ) (ts : List ℕ) → from < to → Changes Still to (suc from) ts → Changes Still to from (cond (quiet from) ts (from ∷ ts))
+  one_earlier : (to from : ℕ) (ts : List ℕ) → from < to → Changes Stable to (suc from) ts → Changes Stable to from (cond (quiet from) ts (from ∷ ts))
   one_earlier to from ts before rest =
       ⊎_elim (λ is. rw is (begun from ((tells from).0 is) rest)) (λ is. rw is (next {from = from} {t = from} (omega arith) before (λ t t_from t_to. absurd (omega arith)) (loud from is) rest)) (cases_Bool (quiet from))
 
-  pub listed_changes : (k from : ℕ) → Changes Still (from + k) from (listed quiet k from)
+  pub listed_changes : (k from : ℕ) → Changes Stable (from + k) from (listed quiet k from)
   listed_changes zero from = none (λ t t_from t_to. absurd (omega arith))
   listed_changes (suc k) from =
       let same : suc from + k ≡ from + suc k = omega arith in
-      one_earlier (from + suc k) from (listed quiet k (suc from)) (omega arith) (subst (λ to. Changes Still to (suc from) (listed quiet k (suc from))) same (listed_changes k (suc from)))
+      one_earlier (from + suc k) from (listed quiet k (suc from)) (omega arith) (subst (λ to. Changes Stable to (suc from) (listed quiet k (suc from))) same (listed_changes k (suc from)))
 
   module _ (from count : ℕ) (ts : List ℕ) (is : listed quiet count from ≡ ts) where
-    pub computed : Changes Still (from + count) from ts
-    computed = subst (Changes Still (from + count) from) is (listed_changes count from)
+    pub computed : Changes Stable (from + count) from ts
+    computed = subst (Changes Stable (from + count) from) is (listed_changes count from)
 
-    pub at_most : (room : ℕ) → length ts ≤ room → AtMost room Still from (from + count)
+    pub at_most : (room : ℕ) → length ts ≤ room → AtMost room Stable from (from + count)
     at_most room few = record { ticks = ts; changes = computed; few = few }
 
-    pub exactly : (room : ℕ) → length ts ≡ room → Exactly room Still from (from + count)
-    exactly room many = record { ticks = ts; changes = computed; many = many }
+    pub exactly : (room : ℕ) → length ts ≡ room → Exactly room Stable from (from + count)
+    exactly room count = record { ticks = ts; changes = computed; count = count }

@@ -1,26 +1,26 @@
 -- What holds in every log, and what stays from one account of a log to the next.
 use Rattle.std.proofs.Common.{◌≡◌, ◌↔◌, ℕ, zero, suc, ◌+◌, ◌<◌, ◌≤◌, cond, ltb, [], refl, ap, sym, ◌∙◌, subst, ⊎_elim, arith}
 use Rattle.std.proofs.lemmas.Bool.{cases_eq, lt-ltb, le-ltb, eq-eqb, ne_eqb}
-use Rattle.semantics.specs.Nets.{Setup, Input, Gate, Line, Reads}
-use Rattle.semantics.specs.Changes.{Steady, AtMost}
+use Rattle.semantics.specs.Nets.{Setup, IsInput, IsGate, IsLine, ReadsFrom}
+use Rattle.semantics.specs.Changes.{StableOn, AtMost}
 use Rattle.semantics.specs.Changes.Changes.{none}
-use Rattle.semantics.specs.Nets.Driver.{nothing}
-use Rattle.semantics.specs.Accounts.{Account, settled, initial, value, before, Still}
+use Rattle.semantics.specs.Nets.Driver.{undriven}
+use Rattle.semantics.specs.Accounts.{Account, settled, initial, value, before, Stable}
 use Rattle.semantics.specs.Comparisons.{Stays}
 use Rattle.semantics.specs.Moves.{put, made, fed, held, taken, trimmed, CanFeed, CanHold, CanTake, CanTrim}
 use Rattle.semantics.specs.Logs.{Takes, Run, Step, Steps, Log}
-use Rattle.semantics.proofs.Goals.{settled_input, settled_gate, settled_nothing, cases_driver, goal_each}
+use Rattle.semantics.proofs.Goals.{settled_input, settled_gate, settled_undriven, cases_driver, goal_each}
 use Rattle.semantics.proofs.Listing.{onward, later, alike}
 use Rattle.semantics.proofs.Locality.{Horizon, Local}
 
 -- what holds of the accounts of every log
 pub record Held {M : Type 0} (s : Setup M) (a : Account M) : Type 0 where
-  pub follows : (n m : ℕ) → Gate s.net n → Reads s.net n m → a.front n ≤ settled s.net a m
-  pub fits : (n : ℕ) → AtMost s.room (Still s a n) a.trim (settled s.net a n)
-  pub input_reaches : (n : ℕ) → Input s.net n → a.trim ≤ a.end n
-  pub front_reaches : (n : ℕ) → Gate s.net n → a.trim ≤ a.front n
-  pub ends_in_time : (n : ℕ) → Input s.net n → a.end n ≤ 2000000000
-  pub input_keeps : (n t : ℕ) → Input s.net n → a.end n ≤ t → Still s a n t
+  pub follows : (n m : ℕ) → IsGate s.net n → ReadsFrom s.net n m → a.front n ≤ settled s.net a m
+  pub fits : (n : ℕ) → AtMost s.room (Stable s a n) a.trim (settled s.net a n)
+  pub input_reaches : (n : ℕ) → IsInput s.net n → a.trim ≤ a.end n
+  pub front_reaches : (n : ℕ) → IsGate s.net n → a.trim ≤ a.front n
+  pub ends_in_time : (n : ℕ) → IsInput s.net n → a.end n ≤ 2000000000
+  pub input_keeps : (n t : ℕ) → IsInput s.net n → a.end n ≤ t → Stable s a n t
 
 module _ {M : Type 0} (s : Setup M) where
   pub stays_itself : (a : Account M) → Stays s a a
@@ -41,9 +41,9 @@ module _ {M : Type 0} (s : Setup M) where
   }
 
   -- where values agree at a tick and the one before, lines are still in both
-  pub still_alike : (a b : Account M) (n t : ℕ) → initial s a n ≡ initial s b n → ((u : ℕ) → u ≤ t → value s a n u ≡ value s b n u) → Still s a n t ↔ Still s b n t
-  still_alike a b n zero begin same = ((λ still. sym (same zero (omega arith)) ∙ (still ∙ begin)), (λ still. same zero (omega arith) ∙ (still ∙ sym begin)))
-  still_alike a b n (suc t) begin same =
+  pub stable_alike : (a b : Account M) (n t : ℕ) → initial s a n ≡ initial s b n → ((u : ℕ) → u ≤ t → value s a n u ≡ value s b n u) → Stable s a n t ↔ Stable s b n t
+  stable_alike a b n zero begin same = ((λ still. sym (same zero (omega arith)) ∙ (still ∙ begin)), (λ still. same zero (omega arith) ∙ (still ∙ sym begin)))
+  stable_alike a b n (suc t) begin same =
       ((λ still. sym (same (suc t) (omega arith)) ∙ (still ∙ same t (omega arith))), (λ still. same (suc t) (omega arith) ∙ (still ∙ sym (same t (omega arith)))))
 
 -- a function of lines with another answer for one line
@@ -70,28 +70,28 @@ module _ {M : Type 0} (s : Setup M) where
       ⊎_elim
       (⊎_elim (λ an_input. let e = ends n in rw (settled_input s.net a n an_input, settled_input s.net b n an_input) e)
       (λ a_gate. let f = fronts n in rw (settled_gate s.net a n a_gate, settled_gate s.net b n a_gate) (omega arith)))
-      (λ none. rw (settled_nothing s.net a n none) (omega arith)) (cases_driver s.net n)
+      (λ none. rw (settled_undriven s.net a n none) (omega arith)) (cases_driver s.net n)
 
   settled_same : (a b : Account M) (n : ℕ) → a.end n ≡ b.end n → a.front n ≡ b.front n → settled s.net a n ≡ settled s.net b n
   settled_same a b n ends fronts =
       ⊎_elim
       (⊎_elim (λ an_input. settled_input s.net a n an_input ∙ (ends ∙ sym (settled_input s.net b n an_input)))
       (λ a_gate. settled_gate s.net a n a_gate ∙ (ap (λ x. x + s.net.lag n) fronts ∙ sym (settled_gate s.net b n a_gate))))
-      (λ none. settled_nothing s.net a n none ∙ sym (settled_nothing s.net b n none)) (cases_driver s.net n)
+      (λ none. settled_undriven s.net a n none ∙ sym (settled_undriven s.net b n none)) (cases_driver s.net n)
 
   -- a line of which nothing is settled has room for all its changes
-  fits_nothing : (a : Account M) (n : ℕ) → s.net.driver n ≡ nothing → AtMost s.room (Still s a n) a.trim (settled s.net a n)
-  fits_nothing a n is = rw (settled_nothing s.net a n is)
+  fits_undriven : (a : Account M) (n : ℕ) → s.net.driver n ≡ undriven → AtMost s.room (Stable s a n) a.trim (settled s.net a n)
+  fits_undriven a n is = rw (settled_undriven s.net a n is)
       (record { ticks = []; changes = none {from = a.trim} (λ t t_from t_to. absurd (omega arith)); few = omega arith })
 
   -- an account in which no value is another, and no front
   module _ (a b : Account M) (h : Held s a) where
-    quiet_beyond : ((n : ℕ) → b.front n ≡ a.front n) → (n t : ℕ) → settled s.net a n ≤ t → t < settled s.net b n → Still s a n t
-    quiet_beyond fronts n t from to =
+    stable_beyond : ((n : ℕ) → b.front n ≡ a.front n) → (n t : ℕ) → settled s.net a n ≤ t → t < settled s.net b n → Stable s a n t
+    stable_beyond fronts n t from to =
         ⊎_elim
         (⊎_elim (λ an_input. let is = settled_input s.net a n an_input in h.input_keeps n t an_input (omega arith))
         (λ a_gate. let e = fronts n in absurd (omega (arith, settled_gate s.net a n a_gate, settled_gate s.net b n a_gate))))
-        (λ none. absurd (omega (arith, settled_nothing s.net b n none))) (cases_driver s.net n)
+        (λ none. absurd (omega (arith, settled_undriven s.net b n none))) (cases_driver s.net n)
 
 -- the record of what holds after a call, and what stays
 pub record Goes {M : Type 0} (s : Setup M) (a b : Account M) : Type 0 where
@@ -100,7 +100,7 @@ pub record Goes {M : Type 0} (s : Setup M) (a b : Account M) : Type 0 where
 
 module _ {M : Type 0} (s : Setup M) where
   -- a list of changes that still fits where a line is settled further, and is quiet there
-  fits_on : (a : Account M) (n to later : ℕ) → to ≤ later → Steady (Still s a n) to later → AtMost s.room (Still s a n) a.trim to → AtMost s.room (Still s a n) a.trim later
+  fits_on : (a : Account M) (n to later : ℕ) → to ≤ later → StableOn (Stable s a n) to later → AtMost s.room (Stable s a n) a.trim to → AtMost s.room (Stable s a n) a.trim later
   fits_on a n to later grows quiet fits = record { ticks = fits.ticks; changes = onward grows quiet fits.changes; few = fits.few }
 
   hold_goes : (a : Account M) (n t : ℕ) → Held s a → CanHold s a n t → Goes s a (held a n t)
@@ -115,7 +115,7 @@ module _ {M : Type 0} (s : Setup M) where
       after : Held s (held a n t)
       after = record {
         follows = λ m j a_gate read. let f = h.follows m j a_gate read in let g = grows j in omega arith;
-        fits = λ m. fits_on a m (settled s.net a m) (settled s.net (held a n t) m) (grows m) (quiet_beyond s a (held a n t) h (λ k. refl) m) (h.fits m);
+        fits = λ m. fits_on a m (settled s.net a m) (settled s.net (held a n t) m) (grows m) (stable_beyond s a (held a n t) h (λ k. refl) m) (h.fits m);
         input_reaches = λ m an_input. let e = ends m in let r = h.input_reaches m an_input in omega arith;
         front_reaches = h.front_reaches;
         ends_in_time = λ m an_input. put_where (λ end. end ≤ 2000000000) a.end n t m c.in_time (h.ends_in_time m an_input);
@@ -131,19 +131,19 @@ module _ {M : Type 0} (s : Setup M) where
       grows : (m : ℕ) → settled s.net a m ≤ settled s.net (taken a n front) m
       grows = settled_grows s a (taken a n front) (λ m. omega arith) fronts
 
-      follows_on : (m j : ℕ) → Gate s.net m → Reads s.net m j → (taken a n front).front m ≤ settled s.net a j
+      follows_on : (m j : ℕ) → IsGate s.net m → ReadsFrom s.net m j → (taken a n front).front m ≤ settled s.net a j
       follows_on m j a_gate read =
-          ⊎_elim (λ same. subst (λ k. put a.front n front k ≤ settled s.net a j) (sym same) (at_line (subst (λ k. Reads s.net k j) same read)))
+          ⊎_elim (λ same. subst (λ k. put a.front n front k ≤ settled s.net a j) (sym same) (at_line (subst (λ k. ReadsFrom s.net k j) same read)))
           (λ other. subst (λ x. x ≤ settled s.net a j) (sym (put_there a.front n front m other)) (h.follows m j a_gate read)) (cases_eq m n)
         where
-          at_line : Reads s.net n j → put a.front n front n ≤ settled s.net a j
+          at_line : ReadsFrom s.net n j → put a.front n front n ≤ settled s.net a j
           at_line read = let e = put_here a.front n front in let g = goal_each s.net a n j read in omega (arith, c.not_beyond)
 
-      fits_after : (m : ℕ) → AtMost s.room (Still s a m) a.trim (settled s.net (taken a n front) m)
-      fits_after m = ⊎_elim (λ same. subst (λ k. AtMost s.room (Still s a k) a.trim (settled s.net (taken a n front) k)) (sym same) at_line) (λ other. subst (AtMost s.room (Still s a m) a.trim) (elsewhere other) (h.fits m)) (cases_eq m n)
+      fits_after : (m : ℕ) → AtMost s.room (Stable s a m) a.trim (settled s.net (taken a n front) m)
+      fits_after m = ⊎_elim (λ same. subst (λ k. AtMost s.room (Stable s a k) a.trim (settled s.net (taken a n front) k)) (sym same) at_line) (λ other. subst (AtMost s.room (Stable s a m) a.trim) (elsewhere other) (h.fits m)) (cases_eq m n)
         where
-          at_line : AtMost s.room (Still s a n) a.trim (settled s.net (taken a n front) n)
-          at_line = subst (AtMost s.room (Still s a n) a.trim) (sym (settled_gate s.net (taken a n front) n c.a_gate ∙ ap (λ x. x + s.net.lag n) (put_here a.front n front))) c.fits
+          at_line : AtMost s.room (Stable s a n) a.trim (settled s.net (taken a n front) n)
+          at_line = subst (AtMost s.room (Stable s a n) a.trim) (sym (settled_gate s.net (taken a n front) n c.a_gate ∙ ap (λ x. x + s.net.lag n) (put_here a.front n front))) c.fits
 
           elsewhere : (m ≡ n → ⊥) → settled s.net a m ≡ settled s.net (taken a n front) m
           elsewhere other = settled_same s a (taken a n front) m refl (sym (put_there a.front n front m other))
@@ -172,14 +172,14 @@ module _ {M : Type 0} (s : Setup M) where
   }
 
 module _ {M : Type 0} (a : Account M) (n t : ℕ) (v : M) where
-  unchanged_below : (u : ℕ) → u < t → (fed a n t v).wave n u ≡ a.wave n u
-  unchanged_below u below = ap (λ f. f u) (put_here a.wave n (λ u. cond (ltb u t) (a.wave n u) v)) ∙ ap (λ b. cond b (a.wave n u) v) (lt-ltb u t below)
+  unchanged_below : (u : ℕ) → u < t → (fed a n t v).waveform n u ≡ a.waveform n u
+  unchanged_below u below = ap (λ f. f u) (put_here a.waveform n (λ u. cond (ltb u t) (a.waveform n u) v)) ∙ ap (λ b. cond b (a.waveform n u) v) (lt-ltb u t below)
 
-  new_from : (u : ℕ) → t ≤ u → (fed a n t v).wave n u ≡ v
-  new_from u from = ap (λ f. f u) (put_here a.wave n (λ u. cond (ltb u t) (a.wave n u) v)) ∙ ap (λ b. cond b (a.wave n u) v) (le-ltb u t from)
+  new_from : (u : ℕ) → t ≤ u → (fed a n t v).waveform n u ≡ v
+  new_from u from = ap (λ f. f u) (put_here a.waveform n (λ u. cond (ltb u t) (a.waveform n u) v)) ∙ ap (λ b. cond b (a.waveform n u) v) (le-ltb u t from)
 
-  unchanged_else : (m u : ℕ) → (m ≡ n → ⊥) → (fed a n t v).wave m u ≡ a.wave m u
-  unchanged_else m u other = ap (λ f. f u) (put_there a.wave n (λ u. cond (ltb u t) (a.wave n u) v) m other)
+  unchanged_else : (m u : ℕ) → (m ≡ n → ⊥) → (fed a n t v).waveform m u ≡ a.waveform m u
+  unchanged_else m u other = ap (λ f. f u) (put_there a.waveform n (λ u. cond (ltb u t) (a.waveform n u) v) m other)
 
 module _ {M : Type 0} (s : Setup M) (local : Local s.net s.rule) (a : Account M) (n t : ℕ) (v : M) (h : Held s a) (c : CanFeed s a n t v) where
   feed_ends : (m : ℕ) → a.end m ≤ (fed a n t v).end m
@@ -188,10 +188,10 @@ module _ {M : Type 0} (s : Setup M) (local : Local s.net s.rule) (a : Account M)
   feed_grows : (m : ℕ) → settled s.net a m ≤ settled s.net (fed a n t v) m
   feed_grows = settled_grows s a (fed a n t v) feed_ends (λ m. omega arith)
 
-  -- waves are the same below the ends
-  feed_waves : (m u : ℕ) → Input s.net m → u < settled s.net a m → a.wave m u ≡ (fed a n t v).wave m u
-  feed_waves m u an_input within =
-      ⊎_elim (λ same. subst (λ k. a.wave k u ≡ (fed a n t v).wave k u) (sym same) (sym (unchanged_below a n t v u (below same)))) (λ other. sym (unchanged_else a n t v m u other))
+  -- waveforms are equal below the ends
+  feed_waveforms : (m u : ℕ) → IsInput s.net m → u < settled s.net a m → a.waveform m u ≡ (fed a n t v).waveform m u
+  feed_waveforms m u an_input within =
+      ⊎_elim (λ same. subst (λ k. a.waveform k u ≡ (fed a n t v).waveform k u) (sym same) (sym (unchanged_below a n t v u (below same)))) (λ other. sym (unchanged_else a n t v m u other))
       (cases_eq m n)
     where
       below : m ≡ n → u < t
@@ -201,48 +201,48 @@ module _ {M : Type 0} (s : Setup M) (local : Local s.net s.rule) (a : Account M)
   feed_stays = record {
     settled_times = feed_grows;
     initial_values = λ m line. refl;
-    values = λ m u line within. local.carries.value a.start a.start a.wave (fed a n t v).wave (λ k an_input. refl) (λ k w. w < settled s.net a k) (settled_horizon s a h) feed_waves m u line within;
+    values = λ m u line within. local.carries.value a.start a.start a.waveform (fed a n t v).waveform (λ k an_input. refl) (λ k w. w < settled s.net a k) (settled_horizon s a h) feed_waveforms m u line within;
   }
 
-  -- an input's waves are its values
-  given : (b : Account M) (m u : ℕ) → Input s.net m → value s b m u ≡ b.wave m u
-  given b m u an_input = local.input_given b.start b.wave m u an_input
+  -- an input's waveforms are its values
+  given : (b : Account M) (m u : ℕ) → IsInput s.net m → value s b m u ≡ b.waveform m u
+  given b m u an_input = local.input_given b.start b.waveform m u an_input
 
-  feed_keeps : (m u : ℕ) → Input s.net m → (fed a n t v).end m ≤ u → Still s (fed a n t v) m u
-  feed_keeps m u an_input from = ⊎_elim (λ same. subst (λ k. Still s (fed a n t v) k u) (sym same) (at_line u (past same))) elsewhere (cases_eq m n)
+  feed_keeps : (m u : ℕ) → IsInput s.net m → (fed a n t v).end m ≤ u → Stable s (fed a n t v) m u
+  feed_keeps m u an_input from = ⊎_elim (λ same. subst (λ k. Stable s (fed a n t v) k u) (sym same) (at_line u (past same))) elsewhere (cases_eq m n)
     where
       past : m ≡ n → t < u
       past same = let e = put_here a.end n (t + 1) in let moved : (fed a n t v).end m ≡ (fed a n t v).end n = ap (fed a n t v).end same in omega arith
 
-      at_line : (u : ℕ) → t < u → Still s (fed a n t v) n u
+      at_line : (u : ℕ) → t < u → Stable s (fed a n t v) n u
       at_line zero after = absurd (omega arith)
       at_line (suc u) after =
           given (fed a n t v) n (suc u) c.an_input ∙ (new_from a n t v (suc u) (omega arith) ∙ sym (given (fed a n t v) n u c.an_input ∙ new_from a n t v u (omega arith)))
 
-      elsewhere : (m ≡ n → ⊥) → Still s (fed a n t v) m u
+      elsewhere : (m ≡ n → ⊥) → Stable s (fed a n t v) m u
       elsewhere other =
-          (still_alike s a (fed a n t v) m u refl (λ w upto. given a m w an_input ∙ (sym (unchanged_else a n t v m w other) ∙ sym (given (fed a n t v) m w an_input)))).0
+          (stable_alike s a (fed a n t v) m u refl (λ w upto. given a m w an_input ∙ (sym (unchanged_else a n t v m w other) ∙ sym (given (fed a n t v) m w an_input)))).0
           (let e = feed_ends m in h.input_keeps m u an_input (omega arith))
 
-  feed_fits : (m : ℕ) → AtMost s.room (Still s (fed a n t v) m) a.trim (settled s.net (fed a n t v) m)
-  feed_fits m = ⊎_elim line_fits (fits_nothing s (fed a n t v) m) (cases_driver s.net m)
+  feed_fits : (m : ℕ) → AtMost s.room (Stable s (fed a n t v) m) a.trim (settled s.net (fed a n t v) m)
+  feed_fits m = ⊎_elim line_fits (fits_undriven s (fed a n t v) m) (cases_driver s.net m)
     where
-      at_line : AtMost s.room (Still s (fed a n t v) n) a.trim (settled s.net (fed a n t v) n)
-      at_line = subst (AtMost s.room (Still s (fed a n t v) n) a.trim) (sym (settled_input s.net (fed a n t v) n c.an_input ∙ put_here a.end n (t + 1))) c.fits
+      at_line : AtMost s.room (Stable s (fed a n t v) n) a.trim (settled s.net (fed a n t v) n)
+      at_line = subst (AtMost s.room (Stable s (fed a n t v) n) a.trim) (sym (settled_input s.net (fed a n t v) n c.an_input ∙ put_here a.end n (t + 1))) c.fits
 
-      elsewhere : Line s.net m → (m ≡ n → ⊥) → AtMost s.room (Still s (fed a n t v) m) a.trim (settled s.net (fed a n t v) m)
+      elsewhere : IsLine s.net m → (m ≡ n → ⊥) → AtMost s.room (Stable s (fed a n t v) m) a.trim (settled s.net (fed a n t v) m)
       elsewhere line other =
           let same : settled s.net a m ≡ settled s.net (fed a n t v) m = settled_same s a (fed a n t v) m (sym (put_there a.end n (t + 1) m other)) refl in
           let fits = h.fits m in
-          subst (AtMost s.room (Still s (fed a n t v) m) a.trim) same
+          subst (AtMost s.room (Stable s (fed a n t v) m) a.trim) same
           (record {
             ticks = fits.ticks;
-            changes = alike (λ u from to. still_alike s a (fed a n t v) m u refl (λ w upto. feed_stays.values m w line (omega arith))) fits.changes;
+            changes = alike (λ u from to. stable_alike s a (fed a n t v) m u refl (λ w upto. feed_stays.values m w line (omega arith))) fits.changes;
             few = fits.few;
           })
 
-      line_fits : Line s.net m → AtMost s.room (Still s (fed a n t v) m) a.trim (settled s.net (fed a n t v) m)
-      line_fits line = ⊎_elim (λ same. subst (λ k. AtMost s.room (Still s (fed a n t v) k) a.trim (settled s.net (fed a n t v) k)) (sym same) at_line) (elsewhere line) (cases_eq m n)
+      line_fits : IsLine s.net m → AtMost s.room (Stable s (fed a n t v) m) a.trim (settled s.net (fed a n t v) m)
+      line_fits line = ⊎_elim (λ same. subst (λ k. AtMost s.room (Stable s (fed a n t v) k) a.trim (settled s.net (fed a n t v) k)) (sym same) at_line) (elsewhere line) (cases_eq m n)
 
   pub feed_goes : Goes s a (fed a n t v)
   feed_goes = record {
@@ -259,25 +259,25 @@ module _ {M : Type 0} (s : Setup M) (local : Local s.net s.rule) (a : Account M)
 
 module _ {M : Type 0} (s : Setup M) (local : Local s.net s.rule) where
   -- a line that has had one value only is still
-  steady_at : (a : Account M) (n t : ℕ) (x : M) → initial s a n ≡ x → ((u : ℕ) → u ≤ t → value s a n u ≡ x) → Still s a n t
-  steady_at a n zero x begin same = same zero (omega arith) ∙ sym begin
-  steady_at a n (suc t) x begin same = same (suc t) (omega arith) ∙ sym (same t (omega arith))
+  stable_at : (a : Account M) (n t : ℕ) (x : M) → initial s a n ≡ x → ((u : ℕ) → u ≤ t → value s a n u ≡ x) → Stable s a n t
+  stable_at a n zero x begin same = same zero (omega arith) ∙ sym begin
+  stable_at a n (suc t) x begin same = same (suc t) (omega arith) ∙ sym (same t (omega arith))
 
-  made_keeps : (start : ℕ → M) (n t : ℕ) → Input s.net n → Still s (made start) n t
-  made_keeps start n t an_input = steady_at (made start) n t (start n) (local.input_begins start n an_input) (λ u upto. local.input_given start (λ m w. start m) n u an_input)
+  made_keeps : (start : ℕ → M) (n t : ℕ) → IsInput s.net n → Stable s (made start) n t
+  made_keeps start n t an_input = stable_at (made start) n t (start n) (local.input_begins start n an_input) (λ u upto. local.input_given start (λ m w. start m) n u an_input)
 
-  made_steady : (start : ℕ → M) (n : ℕ) → Line s.net n → Steady (Still s (made start) n) 0 (settled s.net (made start) n)
-  made_steady start n line t from within =
+  made_stable : (start : ℕ → M) (n : ℕ) → IsLine s.net n → StableOn (Stable s (made start) n) 0 (settled s.net (made start) n)
+  made_stable start n line t from within =
       ⊎_elim (made_keeps start n t)
       (λ a_gate.
       let e = settled_gate s.net (made start) n a_gate in
-      steady_at (made start) n t (s.rule.initial start n) refl (λ u upto. local.gate_waits start (λ m w. start m) n u a_gate (omega arith)))
+      stable_at (made start) n t (s.rule.initial start n) refl (λ u upto. local.gate_waits start (λ m w. start m) n u a_gate (omega arith)))
       line
 
   pub made_held : (start : ℕ → M) → Held s (made start)
   made_held start = record {
     follows = λ n m a_gate read. omega arith;
-    fits = λ n. ⊎_elim (λ line. record { ticks = []; changes = none (made_steady start n line); few = omega arith }) (fits_nothing s (made start) n) (cases_driver s.net n);
+    fits = λ n. ⊎_elim (λ line. record { ticks = []; changes = none (made_stable start n line); few = omega arith }) (fits_undriven s (made start) n) (cases_driver s.net n);
     input_reaches = λ n an_input. omega arith;
     front_reaches = λ n a_gate. omega arith;
     ends_in_time = λ n an_input. omega arith;
@@ -295,8 +295,8 @@ module _ {M : Type 0} (s : Setup M) (local : Local s.net s.rule) where
   step_goes {a = a} h (Step.feed {n = n} {t = t} {v = v} can) = feed_goes s local a n t v h can
   step_goes {a = a} h (Step.hold {n = n} {t = t} can) = hold_goes s a n t h can
   step_goes {a = a} h (Step.take {n = n} {front = front} can) = take_goes s a n front h can
-  step_goes h (Step.run (Run.rest takes within rests)) = takes_go h takes
-  step_goes h (Step.run (Run.more takes left)) = takes_go h takes
+  step_goes h (Step.run (Run.to_rest takes within rests)) = takes_go h takes
+  step_goes h (Step.run (Run.to_count takes left)) = takes_go h takes
   step_goes {a = a} h (Step.trim {t = t} can) = trim_goes s a t h can
 
   pub steps_go : {a b : Account M} → Held s a → Steps s a b → Goes s a b

@@ -1,4 +1,5 @@
 pub mod Agreeing
+pub mod Comparing
 pub mod Computing
 pub mod Depths
 pub mod Goals

@@ -1,60 +1,60 @@
 -- Lists of changes: there is one, and how it follows the ticks that it is taken from.
 use Rattle.std.proofs.Common.{◌≡◌, ◌↔◌, ℕ, suc, ◌<◌, ◌≤◌, List, [], ◌∷◌, ◌++◌, length, refl, ap, sym, subst, ⊎_elim, arith}
 use Rattle.std.proofs.lemmas.Bool.{cases_lt, cases_order}
-use Rattle.semantics.specs.Changes.{Steady, Changes, AtMost, Exactly}
+use Rattle.semantics.specs.Changes.{StableOn, Changes, AtMost, Exactly}
 use Rattle.semantics.specs.Changes.Changes.{none, next}
 
-module _ {Still : ℕ → Type 0} where
+module _ {Stable : ℕ → Type 0} where
   -- the first changes of two lists are one
-  same_first : {from t u : ℕ} → from ≤ t → from ≤ u → Steady Still from t → Steady Still from u → (Still t → ⊥) → (Still u → ⊥) → t ≡ u
+  same_first : {from t u : ℕ} → from ≤ t → from ≤ u → StableOn Stable from t → StableOn Stable from u → (Stable t → ⊥) → (Stable u → ⊥) → t ≡ u
   same_first {t = t} {u = u} t_from u_from t_first u_first t_changes u_changes =
       ⊎_elim (λ same. same) (⊎_elim (λ earlier. absurd (t_changes (u_first t t_from earlier))) (λ later. absurd (u_changes (t_first u u_from later)))) (cases_order t u)
 
   -- there is one list
-  pub one_list : {to from : ℕ} {ts us : List ℕ} → Changes Still to from ts → Changes Still to from us → ts ≡ us
+  pub one_list : {to from : ℕ} {ts us : List ℕ} → Changes Stable to from ts → Changes Stable to from us → ts ≡ us
   one_list (none steady) (none steady') = refl
   one_list (none steady) (next {t = u} u_from u_to first changes rest) = absurd (changes (steady u u_from u_to))
   one_list (next {t = t} t_from t_to first changes rest) (none steady) = absurd (changes (steady t t_from t_to))
   one_list {to = to} (next {t = t} {ts = ts} t_from t_to first changes rest) (next {t = u} {ts = us} u_from u_to first' changes' rest') =
       let same : t ≡ u = same_first t_from u_from first first' changes changes' in
-      let rests : ts ≡ us = one_list rest (subst (λ x. Changes Still to (suc x) us) (sym same) rest') in
+      let rests : ts ≡ us = one_list rest (subst (λ x. Changes Stable to (suc x) us) (sym same) rest') in
       cong2 same rests
     where
       cong2 : {x y : ℕ} {xs ys : List ℕ} → x ≡ y → xs ≡ ys → (x ∷ xs) ≡ (y ∷ ys)
       cong2 e f = cc
 
   -- where the list ends later, and nothing changes between
-  pub onward : {to later from : ℕ} {ts : List ℕ} → to ≤ later → Steady Still to later → Changes Still to from ts → Changes Still later from ts
+  pub onward : {to later from : ℕ} {ts : List ℕ} → to ≤ later → StableOn Stable to later → Changes Stable to from ts → Changes Stable later from ts
   onward {to = to} {later = later} {from = from} grows quiet (none steady) = none longer
     where
-      longer : Steady Still from later
+      longer : StableOn Stable from later
       longer t t_from t_later = ⊎_elim (λ within. steady t t_from within) (λ beyond. quiet t beyond t_later) (cases_lt t to)
   onward grows quiet (next t_from t_to first changes rest) = next t_from (omega arith) first changes (onward grows quiet rest)
 
   -- with one change more at the end
-  pub one_more : {to from : ℕ} {ts : List ℕ} → from ≤ to → (Still to → ⊥) → Changes Still to from ts → Changes Still (suc to) from (ts ++ to ∷ [])
+  pub one_more : {to from : ℕ} {ts : List ℕ} → from ≤ to → (Stable to → ⊥) → Changes Stable to from ts → Changes Stable (suc to) from (ts ++ to ∷ [])
   one_more {to = to} {from = from} reaches here (none steady) = next reaches (omega arith) steady here (none nothing_after)
     where
-      nothing_after : Steady Still (suc to) (suc to)
+      nothing_after : StableOn Stable (suc to) (suc to)
       nothing_after t t_from t_to = absurd (omega arith)
   one_more reaches here (next t_from t_to first changes rest) = next t_from (omega arith) first changes (one_more t_to here rest)
 
 -- the part of a list that ends earlier, which is shorter if the line changes there
-pub record Earlier (Still : ℕ → Type 0) (to mid from : ℕ) (ts : List ℕ) : Type 0 where
+pub record Earlier (Stable : ℕ → Type 0) (to mid from : ℕ) (ts : List ℕ) : Type 0 where
   pub ticks : List ℕ
-  pub changes : Changes Still mid from ticks
+  pub changes : Changes Stable mid from ticks
   pub fewer : length ticks ≤ length ts
-  pub fewer_still : (Still mid → ⊥) → mid < to → from ≤ mid → length ticks < length ts
+  pub fewer_still : (Stable mid → ⊥) → mid < to → from ≤ mid → length ticks < length ts
 
 -- the part of a list that begins later
-pub record Later (Still : ℕ → Type 0) (to mid : ℕ) (ts : List ℕ) : Type 0 where
+pub record Later (Stable : ℕ → Type 0) (to mid : ℕ) (ts : List ℕ) : Type 0 where
   pub ticks : List ℕ
-  pub changes : Changes Still to mid ticks
+  pub changes : Changes Stable to mid ticks
   pub fewer : length ticks ≤ length ts
 
-module _ {Still : ℕ → Type 0} where
-  module _ {from t : ℕ} {ts : List ℕ} (to mid : ℕ) (t_from : from ≤ t) (first : Steady Still from t) (changes : Still t → ⊥) where
-    cut_after : t < mid → Earlier Still to mid (suc t) ts → Earlier Still to mid from (t ∷ ts)
+module _ {Stable : ℕ → Type 0} where
+  module _ {from t : ℕ} {ts : List ℕ} (to mid : ℕ) (t_from : from ≤ t) (first : StableOn Stable from t) (changes : Stable t → ⊥) where
+    cut_after : t < mid → Earlier Stable to mid (suc t) ts → Earlier Stable to mid from (t ∷ ts)
     cut_after inside rest = record {
       ticks = t ∷ rest.ticks;
       changes = next t_from inside first changes rest.changes;
@@ -62,7 +62,7 @@ module _ {Still : ℕ → Type 0} where
       fewer_still = λ here before_end from_mid. let shorter = rest.fewer_still here before_end inside in omega arith;
     }
 
-    cut_before : mid ≤ t → Earlier Still to mid from (t ∷ ts)
+    cut_before : mid ≤ t → Earlier Stable to mid from (t ∷ ts)
     cut_before beyond = record {
       ticks = [];
       changes = none (λ u u_from u_mid. first u u_from (omega arith));
@@ -70,7 +70,7 @@ module _ {Still : ℕ → Type 0} where
       fewer_still = λ here before_end from_mid. omega arith;
     }
 
-  pub earlier : {to from : ℕ} {ts : List ℕ} (mid : ℕ) → mid ≤ to → Changes Still to from ts → Earlier Still to mid from ts
+  pub earlier : {to from : ℕ} {ts : List ℕ} (mid : ℕ) → mid ≤ to → Changes Stable to from ts → Earlier Stable to mid from ts
   earlier mid within (none steady) = record {
     ticks = [];
     changes = none (λ t t_from t_mid. steady t t_from (omega arith));
@@ -80,33 +80,33 @@ module _ {Still : ℕ → Type 0} where
   earlier {to = to} mid within (next {t = t} t_from t_to first changes rest) =
       ⊎_elim (λ inside. cut_after to mid t_from first changes inside (earlier mid within rest)) (λ beyond. cut_before to mid t_from first changes beyond) (cases_lt t mid)
 
-  module _ {to t : ℕ} {ts : List ℕ} (from mid : ℕ) (t_to : t < to) (first : Steady Still from t) (changes : Still t → ⊥) (rest : Changes Still to (suc t) ts) where
-    passed : Later Still to mid ts → Later Still to mid (t ∷ ts)
+  module _ {to t : ℕ} {ts : List ℕ} (from mid : ℕ) (t_to : t < to) (first : StableOn Stable from t) (changes : Stable t → ⊥) (rest : Changes Stable to (suc t) ts) where
+    passed : Later Stable to mid ts → Later Stable to mid (t ∷ ts)
     passed found = record { ticks = found.ticks; changes = found.changes; fewer = omega (arith, found.fewer) }
 
-    kept_whole : from ≤ mid → mid ≤ t → Later Still to mid (t ∷ ts)
+    kept_whole : from ≤ mid → mid ≤ t → Later Stable to mid (t ∷ ts)
     kept_whole after stays = record {
       ticks = t ∷ ts;
       changes = next stays t_to (λ u u_from u_to. first u (omega arith) u_to) changes rest;
       fewer = omega arith;
     }
 
-  pub later : {to from : ℕ} {ts : List ℕ} (mid : ℕ) → from ≤ mid → Changes Still to from ts → Later Still to mid ts
+  pub later : {to from : ℕ} {ts : List ℕ} (mid : ℕ) → from ≤ mid → Changes Stable to from ts → Later Stable to mid ts
   later mid after (none steady) = record { ticks = []; changes = none (λ t t_from t_to. steady t (omega arith) t_to); fewer = omega arith }
   later {from = from} mid after (next {t = t} t_from t_to first changes rest) =
       ⊎_elim (λ past. passed from mid t_to first changes rest (later mid past rest)) (kept_whole from mid t_to first changes rest after) (cases_lt t mid)
 
 -- what is still and what changes is all that counts
-pub alike : {Still Quiet : ℕ → Type 0} {to from : ℕ} {ts : List ℕ} → ((t : ℕ) → from ≤ t → t < to → Still t ↔ Quiet t) → Changes Still to from ts → Changes Quiet to from ts
+pub alike : {Stable Quiet : ℕ → Type 0} {to from : ℕ} {ts : List ℕ} → ((t : ℕ) → from ≤ t → t < to → Stable t ↔ Quiet t) → Changes Stable to from ts → Changes Quiet to from ts
 alike same (none steady) = none (λ t t_from t_to. (same t t_from t_to).0 (steady t t_from t_to))
 alike {from = from} same (next {t = t} t_from t_to first changes rest) =
     next t_from t_to (λ u u_from u_to. (same u u_from (omega arith)).0 (first u u_from u_to)) (λ quiet. changes ((same t t_from t_to).1 quiet)) (alike (λ u u_from u_to. same u (omega arith) u_to) rest)
 
-module _ {Still : ℕ → Type 0} where
+module _ {Stable : ℕ → Type 0} where
   -- There is no room for a change where so many are kept, if the changes beyond it fit.
-  pub no_room : {room from to : ℕ} (t : ℕ) → from ≤ t → (Still t → ⊥) → Exactly room Still from t → t < to → AtMost room Still from to → ⊥
+  pub no_room : {room from to : ℕ} (t : ℕ) → from ≤ t → (Stable t → ⊥) → Exactly room Stable from t → t < to → AtMost room Stable from to → ⊥
   no_room t reaches changes full before fits =
       let cut = earlier t (omega arith) fits.changes in
       let same : cut.ticks ≡ full.ticks = one_list cut.changes full.changes in
       let shorter = cut.fewer_still changes before reaches in
-      omega (arith, ap length same, full.many, fits.few)
+      omega (arith, ap length same, full.count, fits.few)

@@ -1,10 +1,10 @@
--- A take and a run have one outcome each.
-use Rattle.std.proofs.Common.{◌≡◌, ℕ, ◌+◌, ◌<◌, ◌≤◌, Bool, ◌⊎◌, refl, ap, sym, ◌∙◌, subst, ⊎_elim, arith}
+-- A take can lead to one front only, and a run to one account and one answer.
+use Rattle.std.proofs.Common.{◌≡◌, ℕ, ◌+◌, ◌<◌, ◌≤◌, ◌⊎◌, refl, ap, sym, ◌∙◌, subst, ⊎_elim, arith}
 use Rattle.std.proofs.lemmas.Bool.{cases_order}
 use Rattle.semantics.specs.Nets.{Setup}
 use Rattle.semantics.specs.Accounts.{Account, goal, Overflows}
 use Rattle.semantics.specs.Moves.{taken, CanTake, Takeable, ComesFirst, Rest}
-use Rattle.semantics.specs.Logs.{Takes, Run}
+use Rattle.semantics.specs.Logs.{Ending, Takes, Run}
 use Rattle.semantics.proofs.Listing.{no_room}
 use Rattle.semantics.proofs.Resting.{resting}
 
@@ -17,7 +17,7 @@ module _ {M : Type 0} (s : Setup M) where
       at_goal is = omega (arith, two.not_beyond)
 
       at_stop : Overflows s a n (front + s.net.lag n) → ⊥
-      at_stop over = no_room (front + s.net.lag n) over.counts over.changes over.full (omega arith) two.fits
+      at_stop over = no_room (front + s.net.lag n) over.from_trim over.changes over.room_is_full (omega arith) two.fits
 
   pub one_front : (a : Account M) (n front other : ℕ) → CanTake s a n front → CanTake s a n other → front ≡ other
   one_front a n front other one two =
@@ -51,11 +51,6 @@ module _ {M : Type 0} (s : Setup M) where
   one_end {a = a} (Takes.one_more {k = k} {n = n} {front = front} first can after) (Takes.one_more {n = m} {front = other} {b = d} first' can' after') =
       one_end after (subst (λ x. Takes s k x d) (one_next a m n other front first' first can' can) after')
 
-  record Same (b d : Account M) (count other : ℕ) (rest word : Bool) : Type 0 where
-    account : b ≡ d
-    number : count ≡ other
-    told : rest ≡ word
-
   ends_same : {k j : ℕ} {a b d : Account M} → Takes s k a b → Takes s j a d → k ≡ j → b ≡ d
   ends_same {a = a} {d = d} one other same = one_end one (subst (λ x. Takes s x a d) (sym same) other)
 
@@ -67,12 +62,12 @@ module _ {M : Type 0} (s : Setup M) where
       let still : Takeable s b n = subst (λ x. Takeable s x n) (sym same) left in
       resting s b n (rest n still.can.a_gate) still
 
-  pub one_run : {most count other : ℕ} {rest word : Bool} {a b d : Account M} → Run s most a b count rest → Run s most a d other word → (b ≡ d) × (count ≡ other) × (rest ≡ word)
-  one_run (Run.rest {count = k} one within rest) (Run.rest {count = j} other within' rest') =
+  pub one_run : {most count other : ℕ} {ending otherwise : Ending} {a b d : Account M} → Run s most a b count ending → Run s most a d other otherwise → (b ≡ d) × (count ≡ other) × (ending ≡ otherwise)
+  one_run (Run.to_rest {count = k} one within rest) (Run.to_rest {count = j} other within' rest') =
       let one_way = no_more one rest other in
       let other_way = no_more other rest' one in
       let same : k ≡ j = omega arith in
       (ends_same one other same, same, refl)
-  one_run (Run.rest one within rest) (Run.more {n = n} other left) = absurd (not_both_ends n one within rest other left)
-  one_run (Run.more {n = n} one left) (Run.rest other within rest) = absurd (not_both_ends n other within rest one left)
-  one_run (Run.more one left) (Run.more other left') = (one_end one other, refl, refl)
+  one_run (Run.to_rest one within rest) (Run.to_count {n = n} other left) = absurd (not_both_ends n one within rest other left)
+  one_run (Run.to_count {n = n} one left) (Run.to_rest other within rest) = absurd (not_both_ends n other within rest one left)
+  one_run (Run.to_count one left) (Run.to_count other left') = (one_end one other, refl, refl)

@@ -1,30 +1,30 @@
 -- The laws, for the rule of circuits.
-use Rattle.std.proofs.Common.{ℕ}
+use Rattle.std.proofs.Common.{◌≡◌, ℕ}
 use Rattle.netlist.specs.Gates.{Circuit}
 use Rattle.values.specs.Relations.{Kept}
 use Rattle.values.specs.Systems.{System}
-use Rattle.semantics.specs.Accounts.{Account}
+use Rattle.semantics.specs.Accounts.{Account, value, before}
 use Rattle.semantics.specs.Circuits.{net, Wired}
 use Rattle.semantics.specs.Computed.{rule, setup}
-use Rattle.semantics.specs.Laws.{RuleHasOneAnswer, KeptChangesFit, RestIsWhereNoGateCanBeTaken, CallsHaveOneOutcome, SettledValuesStay, SettledIsTheDistance, AlikeRestsAgree, TiesLines}
+use Rattle.semantics.specs.Laws.{RuleDeterminesValues, KeptChangesFit, GatesRestOrCanBeTaken, RestIsWhereNoGateCanBeTaken, CallsAreDetermined, SettledValuesStay, SettledIsTheDistance, AlikeRestsAgree, TiesLines}
 use Rattle.semantics.specs.Logs.{Log}
 use Rattle.semantics.proofs.Agreeing.{agree}
 use Rattle.semantics.proofs.Invariants.{Held, log_held, steps_go}
 use Rattle.semantics.proofs.Listing.{one_list}
 use Rattle.semantics.proofs.Outcomes.{one_front, one_run}
-use Rattle.semantics.proofs.Resting.{resting, none_left}
+use Rattle.semantics.proofs.Resting.{resting, rests_or_moves, rest_is_where_none}
 use Rattle.semantics.proofs.Ruling.{begins, obeys, only_initials, only_values, rule_carries, rule_local}
 use Rattle.semantics.proofs.Settling.{settled_is_distance}
 use Rattle.semantics.proofs.Tying.{lines_tied}
 use Rattle.semantics.proofs.Wiring.{sound}
 
 module _ {M : Type 0} (s : System M) (c : Circuit) where
-  pub rule_has_one_answer : Wired c → RuleHasOneAnswer s c
-  rule_has_one_answer wired start wave = record {
+  pub rule_determines_values : Wired c → RuleDeterminesValues s c
+  rule_determines_values wired start waveform = record {
     begins = begins s c wired start;
-    obeys = obeys s c wired start wave;
+    obeys = obeys s c wired start waveform;
     no_other_begins = only_initials s c wired start;
-    no_other_obeys = λ init v from obeyed. only_values s c wired start init from wave v obeyed;
+    no_other_obeys = λ init v from obeyed. only_values s c wired start init from waveform v obeyed;
   }
 
   module _ (room : ℕ) (wired : Wired c) where
@@ -34,14 +34,18 @@ module _ {M : Type 0} (s : System M) (c : Circuit) where
     pub kept_changes_fit : KeptChangesFit (setup s c room)
     kept_changes_fit a log = record { in_room = (held a log).fits; one_list = λ n ts us kept other. one_list kept other }
 
-    pub rest_is_where_no_gate_can_be_taken : RestIsWhereNoGateCanBeTaken (setup s c room)
-    rest_is_where_no_gate_can_be_taken a log = record {
-      none_at_rest = λ rest n able. resting (setup s c room) a n (rest n able.can.a_gate) able;
-      only_there = none_left (setup s c room) a (held a log) (sound c wired);
+    pub gates_rest_or_can_be_taken : GatesRestOrCanBeTaken (setup s c room)
+    gates_rest_or_can_be_taken a log n a_gate = record {
+      one_of_both = λ told. rests_or_moves (setup s c room) a (held a log) n a_gate told (sound c wired);
+      not_both = resting (setup s c room) a n;
     }
 
-    pub calls_have_one_outcome : CallsHaveOneOutcome (setup s c room)
-    calls_have_one_outcome a log = record { of_take = one_front (setup s c room) a; of_run = λ most count other rest word b d one two. one_run (setup s c room) one two }
+    pub rest_is_where_no_gate_can_be_taken : ((x y : M) → Dec (x ≡ y)) → RestIsWhereNoGateCanBeTaken (setup s c room)
+    rest_is_where_no_gate_can_be_taken told a log =
+        rest_is_where_none (setup s c room) a (held a log) (sound c wired) (λ n a_gate t from to. told (value (setup s c room) a n t) (before (setup s c room) a n t))
+
+    pub calls_are_determined : CallsAreDetermined (setup s c room)
+    calls_are_determined a log = record { take = one_front (setup s c room) a; run = λ most count other ending otherwise b d one two. one_run (setup s c room) one two }
 
     pub settled_values_stay : SettledValuesStay (setup s c room)
     settled_values_stay a b log steps = (steps_go (setup s c room) (rule_local s c wired) (held a log) steps).stays
@@ -60,5 +64,5 @@ module _ {M N : Type 0} (s : System M) (q : System N) (c : Circuit) (room other 
   -- where one relation is as another, it ties as the other does
   pub tied_as : (R P : M → N → Type 0) → ((m : M) (n : N) → P m n → R m n) → ((m : M) (n : N) → R m n → P m n) → TiesLines (setup s c room) (setup q c other) R → TiesLines (setup s c room) (setup q c other) P
   tied_as R P to back ties a b log log' given =
-      let tied = ties a b log log' (record { starts = λ n an_input. to _ _ (given.starts n an_input); waves = λ n t an_input here there. to _ _ (given.waves n t an_input here there) }) in
+      let tied = ties a b log log' (record { starts = λ n an_input. to _ _ (given.starts n an_input); waveforms = λ n t an_input here there. to _ _ (given.waveforms n t an_input here there) }) in
       record { initial_values = λ n line. back _ _ (tied.initial_values n line); values = λ n t line here there. back _ _ (tied.values n t line here there) }

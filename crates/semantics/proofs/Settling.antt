@@ -1,7 +1,7 @@
 -- At rest every line is settled just to its distance.
 use Rattle.std.proofs.Common.{◌≡◌, ℕ, zero, suc, ◌+◌, ◌<◌, ◌≤◌, sym, subst, ⊎_elim, arith}
 use Rattle.std.proofs.lemmas.Bool.{cases_lt}
-use Rattle.semantics.specs.Nets.{Setup, Input, Gate, Line, Reads, Sound}
+use Rattle.semantics.specs.Nets.{Setup, IsInput, IsGate, IsLine, ReadsFrom, Sound}
 use Rattle.semantics.specs.Accounts.{Account, settled, goal, Overflows}
 use Rattle.semantics.specs.Moves.{Rest, Rests}
 use Rattle.semantics.specs.Distances.{Path, LimitedPath, Overfull, Distance}
@@ -13,12 +13,12 @@ module _ {M : Type 0} (s : Setup M) (a : Account M) (h : Held s a) where
   -- a line is settled no further than where a change comes for which there is no room
   pub stops : (n stop : ℕ) → Overflows s a n stop → settled s.net a n ≤ stop
   stops n stop over =
-      ⊎_elim (λ beyond. absurd (no_room stop over.counts over.changes over.full beyond (h.fits n))) (λ within. within) (cases_lt stop (settled s.net a n))
+      ⊎_elim (λ beyond. absurd (no_room stop over.from_trim over.changes over.room_is_full beyond (h.fits n))) (λ within. within) (cases_lt stop (settled s.net a n))
 
-  input_bound : (n : ℕ) → Input s.net n → settled s.net a n ≤ a.end n
+  input_bound : (n : ℕ) → IsInput s.net n → settled s.net a n ≤ a.end n
   input_bound n an_input = let e = settled_input s.net a n an_input in omega arith
 
-  gate_bound : (n m far : ℕ) → Gate s.net n → Reads s.net n m → settled s.net a m ≤ far → settled s.net a n ≤ far + s.net.lag n
+  gate_bound : (n m far : ℕ) → IsGate s.net n → ReadsFrom s.net n m → settled s.net a m ≤ far → settled s.net a n ≤ far + s.net.lag n
   gate_bound n m far a_gate read within = let e = settled_gate s.net a n a_gate in let f = h.follows n m a_gate read in omega arith
 
   -- a line is settled no further than any path is long
@@ -32,7 +32,7 @@ module _ {M : Type 0} (s : Setup M) (a : Account M) (h : Held s a) where
   limited_bound (LimitedPath.through {m = m} {n = n} {far = far} a_gate read path) = gate_bound n m far a_gate read (limited_bound path)
 
   -- a gate that is full below its goal is overfull at its settled time
-  pub overfull : (n : ℕ) → Gate s.net n → a.front n < goal s.net a n → Overflows s a n (a.front n + s.net.lag n) → Overfull s a n (a.front n + s.net.lag n)
+  pub overfull : (n : ℕ) → IsGate s.net n → a.front n < goal s.net a n → Overflows s a n (a.front n + s.net.lag n) → Overfull s a n (a.front n + s.net.lag n)
   overfull n a_gate below over = record { overflows = over; early = early }
     where
       early : (far : ℕ) → Path s a n far → a.front n + s.net.lag n < far
@@ -42,14 +42,14 @@ module _ {M : Type 0} (s : Setup M) (a : Account M) (h : Held s a) where
 
   module _ (sound : Sound s.net) (rest : Rest s a) where
     -- some limited path to a line is as long as the line is settled, to a depth of so many ticks
-    reached : (depth n : ℕ) → Line s.net n → settled s.net a n < depth → LimitedPath s a n (settled s.net a n)
+    reached : (depth n : ℕ) → IsLine s.net n → settled s.net a n < depth → LimitedPath s a n (settled s.net a n)
     reached zero n line within = absurd (omega arith)
     reached (suc depth) n line within = ⊎_elim at_input (λ a_gate. at_gate a_gate (rest n a_gate) (reached depth)) line
       where
-        at_input : Input s.net n → LimitedPath s a n (settled s.net a n)
+        at_input : IsInput s.net n → LimitedPath s a n (settled s.net a n)
         at_input an_input = subst (LimitedPath s a n) (sym (settled_input s.net a n an_input)) (LimitedPath.from_input an_input)
 
-        at_gate : Gate s.net n → Rests s a n → ((m : ℕ) → Line s.net m → settled s.net a m < depth → LimitedPath s a m (settled s.net a m)) → LimitedPath s a n (settled s.net a n)
+        at_gate : IsGate s.net n → Rests s a n → ((m : ℕ) → IsLine s.net m → settled s.net a m < depth → LimitedPath s a m (settled s.net a m)) → LimitedPath s a n (settled s.net a n)
         at_gate a_gate (Rests.idle at_goal) nearer =
             let e = settled_gate s.net a n a_gate in
             let found = goal_attained s.net a n sound a_gate in
@@ -59,5 +59,5 @@ module _ {M : Type 0} (s : Setup M) (a : Account M) (h : Held s a) where
         at_gate a_gate (Rests.full below over) nearer =
             subst (LimitedPath s a n) (sym (settled_gate s.net a n a_gate)) (LimitedPath.from_stop (overfull n a_gate below over))
 
-    pub settled_is_distance : (n : ℕ) → Line s.net n → Distance s a n (settled s.net a n)
+    pub settled_is_distance : (n : ℕ) → IsLine s.net n → Distance s a n (settled s.net a n)
     settled_is_distance n line = record { reached = reached (suc (settled s.net a n)) n line (omega arith); least = λ other path. limited_bound path }

@@ -1,17 +1,19 @@
 -- Tests which, by computing, show that a call is accepted and that an account is at rest.
-use Rattle.std.proofs.Common.{◌≡◌, ℕ, zero, suc, ◌+◌, ◌-◌, ◌<◌, ◌≤◌, Bool, true, false, not, ◌&&◌, ◌||◌, eqb, ltb, leb, ◌⊎◌, List, length, refl, ap, sym, ◌∙◌, subst, inl, inr, ⊎_elim, arith}
+use Rattle.std.proofs.Common.{◌≡◌, ℕ, zero, suc, ◌+◌, ◌-◌, ◌<◌, ◌≤◌, Bool, true, false, not, ◌&&◌, ◌||◌, eqb, ltb, leb, ◌⊎◌, List, [], ◌∷◌, length, refl, ap, sym, ◌∙◌, subst, inl, inr, ⊎_elim, arith}
 use Rattle.std.specs.Prelude.{Decides}
 use Rattle.std.proofs.lemmas.Bool.{and_parts, or_cases, eqb-true, ltb-true, leb-true, not-true, cases_eq}
 use Rattle.netlist.specs.Gates.{Circuit}
 use Rattle.values.specs.Systems.{System}
-use Rattle.semantics.specs.Nets.{Driver, Input, Gate, Setup}
-use Rattle.semantics.specs.Nets.Driver.{nothing, input, gate}
-use Rattle.semantics.specs.Accounts.{Account, goal, value, before, Still, Overflows}
+use Rattle.semantics.specs.Nets.{Driver, IsInput, IsGate, Setup}
+use Rattle.semantics.specs.Nets.Driver.{undriven, input, gate}
+use Rattle.semantics.specs.Accounts.{Account, goal, value, before, Stable, Overflows}
 use Rattle.semantics.specs.Changes.{Changes, AtMost}
 use Rattle.semantics.specs.Circuits.{driver, lines, net}
 use Rattle.semantics.specs.Computed.{setup}
 use Rattle.semantics.specs.Moves.{made, fed, held, taken, trimmed, CanFeed, CanHold, CanTake, CanTrim, Takeable, ComesFirst, Rests, Rest}
-use Rattle.semantics.specs.Logs.{Takes, Run, Step, Steps, Log}
+use Rattle.semantics.specs.Logs.{Ending, Takes, Run, Step, Steps, Log}
+use Rattle.semantics.specs.Worked.{taken_each}
+use Rattle.semantics.proofs.Comparing.{Equality}
 use Rattle.semantics.proofs.Computing.{listed, listed_changes, loud}
 use Rattle.semantics.proofs.Resting.{resting}
 use Rattle.semantics.proofs.Wiring.{line_range}
@@ -29,43 +31,38 @@ up_to_each p (suc k) n passed within =
 
 module _ (c : Circuit) where
   abbrev pub is_input : ℕ → Bool
-  is_input n = elim (driver c n) [ nothing ↦ false | input ↦ true | gate ↦ false ]
+  is_input n = elim (driver c n) [ undriven ↦ false | input ↦ true | gate ↦ false ]
 
   abbrev pub is_gate : ℕ → Bool
-  is_gate n = elim (driver c n) [ nothing ↦ false | input ↦ false | gate ↦ true ]
+  is_gate n = elim (driver c n) [ undriven ↦ false | input ↦ false | gate ↦ true ]
 
-  when_input : (n : ℕ) → is_input n ≡ true → Input (net c) n
+  when_input : (n : ℕ) → is_input n ≡ true → IsInput (net c) n
   when_input n = at_driver (driver c n)
     where
-      at_driver : (d : Driver) → (elim d [ nothing ↦ false | input ↦ true | gate ↦ false ]) ≡ true → d ≡ input
-      at_driver nothing is = cc
+      at_driver : (d : Driver) → (elim d [ undriven ↦ false | input ↦ true | gate ↦ false ]) ≡ true → d ≡ input
+      at_driver undriven is = cc
       at_driver input is = refl
       at_driver gate is = cc
 
-  when_gate : (n : ℕ) → is_gate n ≡ true → Gate (net c) n
+  when_gate : (n : ℕ) → is_gate n ≡ true → IsGate (net c) n
   when_gate n = at_driver (driver c n)
     where
-      at_driver : (d : Driver) → (elim d [ nothing ↦ false | input ↦ false | gate ↦ true ]) ≡ true → d ≡ gate
-      at_driver nothing is = cc
+      at_driver : (d : Driver) → (elim d [ undriven ↦ false | input ↦ false | gate ↦ true ]) ≡ true → d ≡ gate
+      at_driver undriven is = cc
       at_driver input is = cc
       at_driver gate is = refl
 
   -- a test of each input and a test of each gate
   abbrev pub each : (ℕ → Bool) → (ℕ → Bool) → Bool
-  each p q = up_to (λ n. elim (driver c n) [ nothing ↦ true | input ↦ p n | gate ↦ q n ]) (lines c)
+  each p q = up_to (λ n. elim (driver c n) [ undriven ↦ true | input ↦ p n | gate ↦ q n ]) (lines c)
 
-  each_input : (p q : ℕ → Bool) → each p q ≡ true → (n : ℕ) → Input (net c) n → p n ≡ true
+  each_input : (p q : ℕ → Bool) → each p q ≡ true → (n : ℕ) → IsInput (net c) n → p n ≡ true
   each_input p q passed n an_input =
-      ap (λ (d : Driver). elim d [ nothing ↦ true | input ↦ p n | gate ↦ q n ]) (sym an_input) ∙ up_to_each (λ n. elim (driver c n) [ nothing ↦ true | input ↦ p n | gate ↦ q n ]) (lines c) n passed (line_range c n (inl an_input))
+      ap (λ (d : Driver). elim d [ undriven ↦ true | input ↦ p n | gate ↦ q n ]) (sym an_input) ∙ up_to_each (λ n. elim (driver c n) [ undriven ↦ true | input ↦ p n | gate ↦ q n ]) (lines c) n passed (line_range c n (inl an_input))
 
-  each_gate : (p q : ℕ → Bool) → each p q ≡ true → (n : ℕ) → Gate (net c) n → q n ≡ true
+  each_gate : (p q : ℕ → Bool) → each p q ≡ true → (n : ℕ) → IsGate (net c) n → q n ≡ true
   each_gate p q passed n a_gate =
-      ap (λ (d : Driver). elim d [ nothing ↦ true | input ↦ p n | gate ↦ q n ]) (sym a_gate) ∙ up_to_each (λ n. elim (driver c n) [ nothing ↦ true | input ↦ p n | gate ↦ q n ]) (lines c) n passed (line_range c n (inr a_gate))
-
--- a test of equality
-pub record Equality (M : Type 0) : Type 0 where
-  pub same : M → M → Bool
-  pub decides : (x y : M) → Decides (same x y) (x ≡ y)
+      ap (λ (d : Driver). elim d [ undriven ↦ true | input ↦ p n | gate ↦ q n ]) (sym a_gate) ∙ up_to_each (λ n. elim (driver c n) [ undriven ↦ true | input ↦ p n | gate ↦ q n ]) (lines c) n passed (line_range c n (inr a_gate))
 
 module _ {M : Type 0} (e : Equality M) (s : System M) (c : Circuit) (room : ℕ) where
   abbrev S : Setup M
@@ -75,22 +72,22 @@ module _ {M : Type 0} (e : Equality M) (s : System M) (c : Circuit) (room : ℕ)
     abbrev pub quiet : ℕ → ℕ → Bool
     quiet n t = e.same (value S a n t) (before S a n t)
 
-    pub tells : (n t : ℕ) → Decides (quiet n t) (Still S a n t)
+    pub tells : (n t : ℕ) → Decides (quiet n t) (Stable S a n t)
     tells n t = e.decides (value S a n t) (before S a n t)
 
     -- the changes from the trim tick on and below a tick
     abbrev pub changes_to : ℕ → ℕ → List ℕ
     changes_to n to = listed (quiet n) (to - a.trim) a.trim
 
-    pub listed_to : (n to : ℕ) (ts : List ℕ) → a.trim ≤ to → changes_to n to ≡ ts → Changes (Still S a n) to a.trim ts
+    pub listed_to : (n to : ℕ) (ts : List ℕ) → a.trim ≤ to → changes_to n to ≡ ts → Changes (Stable S a n) to a.trim ts
     listed_to n to ts reaches is =
         let up : a.trim + (to - a.trim) ≡ to = omega arith in
-        subst (Changes (Still S a n) to a.trim) is (subst (λ x. Changes (Still S a n) x a.trim (listed (quiet n) (to - a.trim) a.trim)) up (listed_changes (Still S a n) (quiet n) (tells n) (to - a.trim) a.trim))
+        subst (Changes (Stable S a n) to a.trim) is (subst (λ x. Changes (Stable S a n) x a.trim (listed (quiet n) (to - a.trim) a.trim)) up (listed_changes (Stable S a n) (quiet n) (tells n) (to - a.trim) a.trim))
 
     abbrev pub fits_test : ℕ → ℕ → Bool
     fits_test n to = leb a.trim to && leb (length (changes_to n to)) room
 
-    fits : (n to : ℕ) → fits_test n to ≡ true → AtMost room (Still S a n) a.trim to
+    fits : (n to : ℕ) → fits_test n to ≡ true → AtMost room (Stable S a n) a.trim to
     fits n to passed =
         let parts = and_parts (leb a.trim to) (leb (length (changes_to n to)) room) passed in
         record { ticks = changes_to n to; changes = listed_to n to (changes_to n to) (leb-true a.trim to parts.0) refl; few = leb-true (length (changes_to n to)) room parts.1 }
@@ -104,9 +101,9 @@ module _ {M : Type 0} (e : Equality M) (s : System M) (c : Circuit) (room : ℕ)
         let firsts = and_parts (leb a.trim t) (not (quiet n t)) parts.0 in
         let reaches = leb-true a.trim t firsts.0 in
         record {
-          counts = reaches;
-          changes = loud (Still S a n) (quiet n) (tells n) t (not-true (quiet n t) firsts.1);
-          full = record { ticks = changes_to n t; changes = listed_to n t (changes_to n t) reaches refl; many = eqb-true (length (changes_to n t)) room parts.1 };
+          from_trim = reaches;
+          changes = loud (Stable S a n) (quiet n) (tells n) t (not-true (quiet n t) firsts.1);
+          room_is_full = record { ticks = changes_to n t; changes = listed_to n t (changes_to n t) reaches refl; count = eqb-true (length (changes_to n t)) room parts.1 };
         }
 
     abbrev pub feed_test : ℕ → ℕ → Bool
@@ -211,11 +208,26 @@ module _ {M : Type 0} (e : Equality M) (s : System M) (c : Circuit) (room : ℕ)
   pub then_trim : {a : Account M} (t : ℕ) → Log S a → trim_test a t ≡ true → Log S (trimmed a t)
   then_trim {a = a} t log passed = on log (Step.trim (can_trim a t passed))
 
-  pub then_run : {a b : Account M} {most count : ℕ} {rest : Bool} → Log S a → Run S most a b count rest → Log S b
+  pub then_run : {a b : Account M} {most count : ℕ} {ending : Ending} → Log S a → Run S most a b count ending → Log S b
   then_run log ran = on log (Step.run ran)
 
-  pub first_take : {a b : Account M} {k : ℕ} (n front : ℕ) → first_test a n ≡ true → take_test a n front ≡ true → Takes S k (taken a n front) b → Takes S (suc k) a b
+  first_take : {a b : Account M} {k : ℕ} (n front : ℕ) → first_test a n ≡ true → take_test a n front ≡ true → Takes S k (taken a n front) b → Takes S (suc k) a b
   first_take {a = a} n front first passed rest = let can = can_take a n front passed in Takes.one_more (comes_first a n (record { front = front; can = can }) first) can rest
 
-  pub to_rest : {a b : Account M} {count : ℕ} (most : ℕ) → leb count most ≡ true → Takes S count a b → rest_test b ≡ true → Run S most a b count true
-  to_rest {b = b} {count = count} most few takes passed = Run.rest takes (leb-true count most few) (at_rest b passed)
+  pub takeable : (a : Account M) (n front : ℕ) → take_test a n front ≡ true → Takeable S a n
+  takeable a n front passed = record { front = front; can = can_take a n front passed }
+
+  -- takes one after another, each of the gate that comes first
+  abbrev pub takes_test : Account M → List (ℕ × ℕ) → Bool
+  takes_test a [] = true
+  takes_test a (take ∷ takes) = first_test a take.0 && take_test a take.0 take.1 && takes_test (taken a take.0 take.1) takes
+
+  pub each_take : (a : Account M) (takes : List (ℕ × ℕ)) → takes_test a takes ≡ true → Takes S (length takes) a (taken_each a takes)
+  each_take a [] passed = Takes.none
+  each_take a (take ∷ takes) passed =
+      let parts = and_parts (first_test a take.0 && take_test a take.0 take.1) (takes_test (taken a take.0 take.1) takes) passed in
+      let firsts = and_parts (first_test a take.0) (take_test a take.0 take.1) parts.0 in
+      first_take take.0 take.1 firsts.0 firsts.1 (each_take (taken a take.0 take.1) takes parts.1)
+
+  pub run_to_rest : (a : Account M) (most : ℕ) (takes : List (ℕ × ℕ)) → takes_test a takes ≡ true → leb (length takes) most ≡ true → rest_test (taken_each a takes) ≡ true → Run S most a (taken_each a takes) (length takes) Ending.rest
+  run_to_rest a most takes passed few rest = Run.to_rest (each_take a takes passed) (leb-true (length takes) most few) (at_rest (taken_each a takes) rest)

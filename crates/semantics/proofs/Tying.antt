@@ -25,6 +25,6 @@ module _ {M N : Type 0} (net : Net) (r : Rule M) (q : Rule N) (room rom : ℕ) (
     lines_tied = record {
       initial_values = carries.initial a.start b.start given.starts;
       values = λ n t line here there.
-          carries.value a.start b.start a.wave b.wave given.starts (λ m u. (u < settled net a m) × (u < settled net b m)) both_settled
-          (λ m u an_input within. given.waves m u an_input (subst (λ end. u < end) (settled_input net a m an_input) within.0) (subst (λ end. u < end) (settled_input net b m an_input) within.1)) n t line (here, there);
+          carries.value a.start b.start a.waveform b.waveform given.starts (λ m u. (u < settled net a m) × (u < settled net b m)) both_settled
+          (λ m u an_input within. given.waveforms m u an_input (subst (λ end. u < end) (settled_input net a m an_input) within.0) (subst (λ end. u < end) (settled_input net b m an_input) within.1)) n t line (here, there);
     }

@@ -1,64 +1,59 @@
 -- The worked logs: each of their calls passes its test.
-use Rattle.std.proofs.Common.{◌≡◌, Bool, true, false, cond, ltb, ◌⊎◌, [], ◌∷◌, refl, sym, subst, inl, inr, arith, Contains}
-use Rattle.std.specs.Prelude.{Decides}
-use Rattle.std.specs.Cmp.{booleans_Decides}
-use Rattle.std.proofs.Math.Bool.{beq}
-use Rattle.std.proofs.lemmas.Bool.{cases_Bool, both_ways}
+use Rattle.std.proofs.Common.{◌≡◌, ℕ, ◌≤◌, Bool, true, false, cond, ltb, [], ◌∷◌, refl, sym, subst, arith, Contains}
+use Rattle.netlist.specs.Gates.{Circuit}
+use Rattle.netlist.specs.Walks.{Walk}
 use Rattle.values.specs.Knowledge.{three_valued, stands_for}
 use Rattle.values.specs.Systems.{two_valued}
-use Rattle.values.specs.declared.ternary.Ternary.{Ternary}
 use Rattle.values.specs.declared.ternary.Ternary.TheVariants.{Zero, One, X}
 use Rattle.semantics.specs.Accounts.{Kept}
 use Rattle.semantics.specs.Computed.{setup, initial, value, begin_to, follow_to, looped, leads}
-use Rattle.semantics.specs.Logs.{Takes, Run, Log}
-use Rattle.semantics.specs.Moves.{trimmed}
-use Rattle.semantics.specs.Worked.{pulse, bits, given, AtRest, full, FullLine, freed, FreedLine, second_first, third_first, EitherFirst, ahead, caught_up, known, KnownLines}
+use Rattle.semantics.specs.Logs.{Ending, Run, Step, Steps, Log}
+use Rattle.semantics.specs.Moves.{made, fed, held, taken, trimmed}
+use Rattle.semantics.specs.Worked.{pulse, pulse_and_on, latch, bits, given, AtRest, stopped, FullLine, freed, FreedLine, held_up, HeldUpLine, at_once, early, first_stretch, in_stretches, AnyOrder, ahead, caught_up, known, KnownLines, set, latched, LatchedLines}
+use Rattle.semantics.proofs.Comparing.{equal_bits, equal_values, same_values}
 use Rattle.semantics.proofs.Proved.{held as invariants}
 use Rattle.semantics.proofs.Settling.{overfull}
-use Rattle.semantics.proofs.Testing.{Equality, quiet, tells, overflows, listed_to, at_rest, begun, then_feed, then_hold, then_take, then_trim, then_run, first_take, to_rest}
+use Rattle.semantics.proofs.Testing.{can_take, can_trim, overflows, listed_to, at_rest, begun, then_feed, then_hold, then_take, then_trim, then_run, each_take, run_to_rest, takeable}
 use Rattle.semantics.proofs.Wiring.{input_range}
 
-abbrev equal_bits : Equality Bool
-equal_bits = record { same = beq; decides = booleans_Decides }
-
--- what a test decides can be told
-told : {P : Type 0} (answer : Bool) → Decides answer P → (answer ≡ true) ⊎ (answer ≡ false) → Dec P
-told answer decides (inl is) = yes (decides.0 is)
-told answer decides (inr is) = no (λ p. both_ways answer is (decides.1 p))
+-- of bits in one circuit
+module _ (c : Circuit) where
+  bits_given : (room : ℕ) → Log (setup two_valued c room) (made (λ n. false))
+  bits_given room = begun equal_bits two_valued c room (λ n. false)
 
 -- with room for one change
-full_run : Run (bits 1) 5 given full 2 true
+full_run : Run (bits 1) 5 given stopped 2 Ending.rest
 unfolding initial value begin_to follow_to looped leads
-full_run = to_rest equal_bits two_valued pulse 1 5 refl (first_take equal_bits two_valued pulse 1 2 20 refl refl (first_take equal_bits two_valued pulse 1 3 12 refl refl Takes.none)) refl
+full_run = run_to_rest equal_bits two_valued pulse 1 given 5 ((2, 20) ∷ (3, 12) ∷ []) refl refl refl
 
 given_log : Log (bits 1) given
 unfolding initial value begin_to follow_to looped leads
-given_log = then_hold equal_bits two_valued pulse 1 1 20 (then_feed equal_bits two_valued pulse 1 1 10 true (begun equal_bits two_valued pulse 1 (λ n. false)) refl refl) refl
+given_log = then_hold equal_bits two_valued pulse 1 1 20 (then_feed equal_bits two_valued pulse 1 1 10 true (bits_given pulse 1) refl refl) refl
 
-full_rests : AtRest (bits 1) full
+full_rests : AtRest (bits 1) stopped
 unfolding initial value begin_to follow_to looped leads
-full_rests = record { log = then_run equal_bits two_valued pulse 1 given_log full_run; rest = at_rest equal_bits two_valued pulse 1 full refl }
+full_rests = record { log = then_run equal_bits two_valued pulse 1 given_log full_run; rest = at_rest equal_bits two_valued pulse 1 stopped refl }
 
 pub full_line : FullLine
 unfolding initial value begin_to follow_to looped leads
 full_line = record {
   wired = refl;
-  runs = full_run;
+  run = full_run;
   rests = full_rests;
-  told = λ n t line. told (quiet equal_bits two_valued pulse 1 full n t) (tells equal_bits two_valued pulse 1 full n t) (cases_Bool (quiet equal_bits two_valued pulse 1 full n t));
-  kept = listed_to equal_bits two_valued pulse 1 full 3 13 (11 ∷ []) (omega arith) refl;
-  overfull = overfull (bits 1) full (invariants two_valued pulse 1 refl full full_rests.log) 3 refl (omega arith) (overflows equal_bits two_valued pulse 1 full 3 13 refl);
+  kept = listed_to equal_bits two_valued pulse 1 stopped 3 13 (11 ∷ []) (omega arith) refl;
+  overfull = overfull (bits 1) stopped (invariants two_valued pulse 1 refl stopped full_rests.log) 3 refl (omega arith) (overflows equal_bits two_valued pulse 1 stopped 3 13 refl);
 }
 
 -- with the first change dropped
-freed_run : Run (bits 1) 5 (trimmed full 12) freed 1 true
+freed_run : Run (bits 1) 5 (trimmed stopped 12) freed 1 Ending.rest
 unfolding initial value begin_to follow_to looped leads
-freed_run = to_rest equal_bits two_valued pulse 1 5 refl (first_take equal_bits two_valued pulse 1 3 20 refl refl Takes.none) refl
+freed_run = run_to_rest equal_bits two_valued pulse 1 (trimmed stopped 12) 5 ((3, 20) ∷ []) refl refl refl
 
 pub freed_line : FreedLine
 unfolding initial value begin_to follow_to looped leads
 freed_line = record {
-  runs = freed_run;
+  steps = Steps.then (Steps.then Steps.none (Step.trim (can_trim equal_bits two_valued pulse 1 stopped 12 refl))) (Step.run freed_run);
+  run = freed_run;
   rests = record {
     log = then_run equal_bits two_valued pulse 1 (then_trim equal_bits two_valued pulse 1 12 full_rests.log refl) freed_run;
     rest = at_rest equal_bits two_valued pulse 1 freed refl;
@@ -66,55 +61,71 @@ freed_line = record {
   kept = listed_to equal_bits two_valued pulse 1 freed 3 21 (13 ∷ []) (omega arith) refl;
 }
 
--- with room for two changes
-given_log_of_two : Log (bits 2) given
+-- with a line that reads the full one
+held_up_run : Run (setup two_valued pulse_and_on 1) 5 given held_up 3 Ending.rest
 unfolding initial value begin_to follow_to looped leads
-given_log_of_two = then_hold equal_bits two_valued pulse 2 1 20 (then_feed equal_bits two_valued pulse 2 1 10 true (begun equal_bits two_valued pulse 2 (λ n. false)) refl refl) refl
+held_up_run = run_to_rest equal_bits two_valued pulse_and_on 1 given 5 ((2, 20) ∷ (3, 12) ∷ (4, 13) ∷ []) refl refl refl
 
-pub either_first : EitherFirst
+pub held_up_line : HeldUpLine
 unfolding initial value begin_to follow_to looped leads
-either_first = record {
-  one_rests = record {
-    log = then_take equal_bits two_valued pulse 2 3 20 (then_take equal_bits two_valued pulse 2 2 20 given_log_of_two refl) refl;
-    rest = at_rest equal_bits two_valued pulse 2 second_first refl;
+held_up_line = record {
+  wired = refl;
+  run = held_up_run;
+  rests = record {
+    log =
+        then_run equal_bits two_valued pulse_and_on 1
+        (then_hold equal_bits two_valued pulse_and_on 1 1 20 (then_feed equal_bits two_valued pulse_and_on 1 1 10 true (bits_given pulse_and_on 1) refl refl) refl) held_up_run;
+    rest = at_rest equal_bits two_valued pulse_and_on 1 held_up refl;
   };
-  other_rests = record {
-    log = then_take equal_bits two_valued pulse 2 3 20 (then_take equal_bits two_valued pulse 2 2 20 (then_take equal_bits two_valued pulse 2 3 2 given_log_of_two refl) refl) refl;
-    rest = at_rest equal_bits two_valued pulse 2 third_first refl;
-  };
-  alike = record { starts = λ n an_input. refl; ends = λ n an_input. refl; waves = λ n t an_input within. refl; trims = refl };
-  kept = listed_to equal_bits two_valued pulse 2 third_first 3 21 (11 ∷ 13 ∷ []) (omega arith) refl;
 }
 
--- with a front ahead
-pub ahead_run : Run (bits 2) 5 ahead caught_up 3 true
+-- with room for two changes
+fed_log : Log (bits 2) (fed (made (λ n. false)) 1 10 true)
 unfolding initial value begin_to follow_to looped leads
-ahead_run =
-    to_rest equal_bits two_valued pulse 2 5 refl
-    (first_take equal_bits two_valued pulse 2 3 7 refl refl (first_take equal_bits two_valued pulse 2 2 20 refl refl (first_take equal_bits two_valued pulse 2 3 20 refl refl Takes.none))) refl
+fed_log = then_feed equal_bits two_valued pulse 2 1 10 true (bits_given pulse 2) refl refl
+
+at_once_run : Run (bits 2) 5 given at_once 2 Ending.rest
+unfolding initial value begin_to follow_to looped leads
+at_once_run = run_to_rest equal_bits two_valued pulse 2 given 5 ((2, 20) ∷ (3, 20) ∷ []) refl refl refl
+
+one_stretch : Run (bits 2) 5 (fed (made (λ n. false)) 1 10 true) first_stretch 2 Ending.rest
+unfolding initial value begin_to follow_to looped leads
+one_stretch = run_to_rest equal_bits two_valued pulse 2 (fed (made (λ n. false)) 1 10 true) 5 ((2, 11) ∷ (3, 11) ∷ []) refl refl refl
+
+other_stretch : Run (bits 2) 5 (held first_stretch 1 20) in_stretches 2 Ending.rest
+unfolding initial value begin_to follow_to looped leads
+other_stretch = run_to_rest equal_bits two_valued pulse 2 (held first_stretch 1 20) 5 ((2, 20) ∷ (3, 20) ∷ []) refl refl refl
+
+pub any_order : AnyOrder
+unfolding initial value begin_to follow_to looped leads
+any_order = record {
+  run = at_once_run;
+  rests = record { log = then_run equal_bits two_valued pulse 2 (then_hold equal_bits two_valued pulse 2 1 20 fed_log refl) at_once_run; rest = at_rest equal_bits two_valued pulse 2 at_once refl };
+  early_take = can_take equal_bits two_valued pulse 2 given 3 2 refl;
+  later_run = run_to_rest equal_bits two_valued pulse 2 early 5 ((2, 20) ∷ (3, 20) ∷ []) refl refl refl;
+  one_stretch = one_stretch;
+  other_stretch = other_stretch;
+  rests_too = record {
+    log = then_run equal_bits two_valued pulse 2 (then_hold equal_bits two_valued pulse 2 1 20 (then_run equal_bits two_valued pulse 2 fed_log one_stretch) refl) other_stretch;
+    rest = at_rest equal_bits two_valued pulse 2 in_stretches refl;
+  };
+  alike = record { starts = λ n an_input. refl; ends = λ n an_input. ends n (input_range pulse n an_input); waveforms = λ n t an_input within. refl; trims = refl };
+  kept = listed_to equal_bits two_valued pulse 2 in_stretches 3 21 (11 ∷ 13 ∷ []) (omega arith) refl;
+}
+  where
+    ends : (n : ℕ) → (1 ≤ n) × (n ≤ 1) → at_once.end n ≡ in_stretches.end n
+    ends n range = let is : n ≡ 1 = omega (arith, range.0, range.1) in subst (λ k. at_once.end k ≡ in_stretches.end k) (sym is) refl
+
+-- with a front ahead
+pub ahead_run : Run (bits 2) 5 ahead caught_up 3 Ending.rest
+unfolding initial value begin_to follow_to looped leads
+ahead_run = run_to_rest equal_bits two_valued pulse 2 ahead 5 ((3, 7) ∷ (2, 20) ∷ (3, 20) ∷ []) refl refl refl
+
+pub short_run : Run (bits 2) 2 ahead (taken (taken ahead 3 7) 2 20) 2 Ending.more
+unfolding initial value begin_to follow_to looped leads
+short_run = Run.to_count (each_take equal_bits two_valued pulse 2 ahead ((3, 7) ∷ (2, 20) ∷ []) refl) (takeable equal_bits two_valued pulse 2 (taken (taken ahead 3 7) 2 20) 3 20 refl)
 
 -- in three values
-unfoldable same_values : Ternary → Ternary → Bool
-same_values Zero Zero = true
-same_values One One = true
-same_values X X = true
-same_values _ _ = false
-
-values_decided : (x y : Ternary) → Decides (same_values x y) (x ≡ y)
-unfolding same_values
-values_decided Zero Zero = (λ is. refl, λ is. refl)
-values_decided Zero One = (λ is. cc, λ is. cc)
-values_decided Zero X = (λ is. cc, λ is. cc)
-values_decided One Zero = (λ is. cc, λ is. cc)
-values_decided One One = (λ is. refl, λ is. refl)
-values_decided One X = (λ is. cc, λ is. cc)
-values_decided X Zero = (λ is. cc, λ is. cc)
-values_decided X One = (λ is. cc, λ is. cc)
-values_decided X X = (λ is. refl, λ is. refl)
-
-abbrev equal_values : Equality Ternary
-equal_values = record { same = same_values; decides = values_decided }
-
 known_rests : AtRest (setup three_valued pulse 3) known
 unfolding same_values initial value begin_to follow_to looped leads
 known_rests = record {
@@ -142,12 +153,36 @@ known_lines = record {
   rests = known_rests;
   kept_by_first = listed_to equal_values three_valued pulse 3 known 1 20 (0 ∷ 10 ∷ []) (omega arith) refl;
   kept_by_second = listed_to equal_values three_valued pulse 3 known 2 22 (2 ∷ 12 ∷ []) (omega arith) refl;
-  given_log = given_log;
+  other_rests = full_rests;
   tied = record {
     starts = λ n an_input. (0, omega arith, refl);
-    waves = λ n t an_input here there.
+    waveforms = λ n t an_input here there.
         let r = input_range pulse n an_input in
         let is : n ≡ 1 = omega arith in
-        subst (λ k. Contains (stands_for (known.wave k t)) (given.wave k t)) (sym is) (either_way (ltb t 10) (ltb t 0));
+        subst (λ k. Contains (stands_for (known.waveform k t)) (stopped.waveform k t)) (sym is) (either_way (ltb t 10) (ltb t 0));
   };
+}
+
+-- in a loop
+latched_run : Run (setup three_valued latch 2) 20 set latched 11 Ending.rest
+unfolding same_values initial value begin_to follow_to looped leads
+latched_run =
+    run_to_rest equal_values three_valued latch 2 set 20 ((3, 1) ∷ (4, 2) ∷ (3, 3) ∷ (4, 4) ∷ (3, 5) ∷ (4, 6) ∷ (3, 7) ∷ (4, 8) ∷ (3, 9) ∷ (4, 10) ∷ (3, 10) ∷ []) refl refl refl
+
+latched_log : Log (setup three_valued latch 2) set
+unfolding same_values initial value begin_to follow_to looped leads
+latched_log =
+    then_hold equal_values three_valued latch 2 2 10
+    (then_hold equal_values three_valued latch 2 1 10 (then_feed equal_values three_valued latch 2 1 0 One (begun equal_values three_valued latch 2 (λ n. Zero)) refl refl) refl) refl
+
+pub latched_lines : LatchedLines
+unfolding same_values initial value begin_to follow_to looped leads
+latched_lines = record {
+  wired = refl;
+  looped =
+      Walk.on {j = 4} (record { place = 1; within = omega arith; is = refl }) (Walk.step (record { place = 1; within = omega arith; is = refl }));
+  run = latched_run;
+  rests = record { log = then_run equal_values three_valued latch 2 latched_log latched_run; rest = at_rest equal_values three_valued latch 2 latched refl };
+  kept_by_fourth = listed_to equal_values three_valued latch 2 latched 4 11 (1 ∷ []) (omega arith) refl;
+  kept_by_third = listed_to equal_values three_valued latch 2 latched 3 11 (2 ∷ []) (omega arith) refl;
 }

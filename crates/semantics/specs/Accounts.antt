@@ -2,14 +2,14 @@
 use Rattle.std.specs.Prelude.{◌≡◌, ℕ, zero, suc, ◌+◌, ◌≤◌, min, List, [], ◌∷◌, map, fold}
 use Rattle.semantics.specs.Changes.{Changes, Exactly}
 use Rattle.semantics.specs.Nets.{Net, Setup}
-use Rattle.semantics.specs.Nets.Driver.{nothing, input, gate}
+use Rattle.semantics.specs.Nets.Driver.{undriven, input, gate}
 
--- Each input has an initial value, a value at each tick, which from its end on is the last one that it was given, and an
--- end, the tick below which its values are given. Each gate has a front, up to which it has followed the lines that it
--- reads. Changes are kept from the trim tick on.
+-- An input has an initial value, and a waveform, its value at each tick. Its end is the tick below which it has been given
+-- values; from there on its waveform keeps the last of them. A gate has a front, up to which it has followed the lines that
+-- it reads. Changes are kept from the trim tick on.
 pub record Account (M : Type 0) : Type 0 where
   pub start : ℕ → M
-  pub wave : ℕ → ℕ → M
+  pub waveform : ℕ → ℕ → M
   pub end : ℕ → ℕ
   pub front : ℕ → ℕ
   pub trim : ℕ
@@ -22,7 +22,7 @@ least (t ∷ ts) = fold min t ts
 module _ {M : Type 0} where
   -- A line is settled below this tick: an input up to its end, a gate line up to its front plus its gate's lag.
   abbrev pub settled : Net → Account M → ℕ → ℕ
-  settled net a n = elim (net.driver n) [ nothing ↦ 0 | input ↦ a.end n | gate ↦ a.front n + net.lag n ]
+  settled net a n = elim (net.driver n) [ undriven ↦ 0 | input ↦ a.end n | gate ↦ a.front n + net.lag n ]
 
   -- A gate's goal is the least settled time of the lines that it reads: its front moves up to there and no further.
   abbrev pub goal : Net → Account M → ℕ → ℕ
@@ -33,23 +33,23 @@ module _ {M : Type 0} where
     initial = s.rule.initial a.start n
 
     abbrev pub value : ℕ → M
-    value t = s.rule.value a.start a.wave n t
+    value t = s.rule.value a.start a.waveform n t
 
     -- the value at the tick before, which before tick 0 is the initial value
     abbrev pub before : ℕ → M
     before zero = initial
     before (suc t) = value t
 
-    -- A line is still at a tick where its value is that of the tick before; else it changes there.
-    abbrev pub Still : ℕ → Type 0
-    Still t = value t ≡ before t
+    -- A line is stable at a tick where its value is that of the tick before; else it changes there.
+    abbrev pub Stable : ℕ → Type 0
+    Stable t = value t ≡ before t
 
     -- the kept changes: all from the trim tick on and below the settled time
     abbrev pub Kept : List ℕ → Type 0
-    Kept ts = Changes Still (settled s.net a n) a.trim ts
+    Kept ts = Changes Stable (settled s.net a n) a.trim ts
 
     -- at a tick comes a change that would be kept, for which there is no room
     pub record Overflows (t : ℕ) : Type 0 where
-      pub counts : a.trim ≤ t
-      pub changes : Still t → ⊥
-      pub full : Exactly s.room Still a.trim t
+      pub from_trim : a.trim ≤ t
+      pub changes : Stable t → ⊥
+      pub room_is_full : Exactly s.room Stable a.trim t

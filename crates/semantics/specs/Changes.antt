@@ -1,23 +1,23 @@
 -- The ticks at which a line changes, as a list.
 use Rattle.std.specs.Prelude.{◌≡◌, ℕ, suc, ◌<◌, ◌≤◌, List, [], ◌∷◌, length}
 
--- a line is still at all ticks from one on and below another
-abbrev pub Steady : (ℕ → Type 0) → ℕ → ℕ → Type 0
-Steady Still from to = (t : ℕ) → from ≤ t → t < to → Still t
+-- a line is stable at all ticks from `from` on, below `to`
+abbrev pub StableOn : (ℕ → Type 0) → ℕ → ℕ → Type 0
+StableOn Stable from to = (t : ℕ) → from ≤ t → t < to → Stable t
 
--- the list has just the ticks, from one on and below another, at which the line is not still, the earliest first
-pub data Changes (Still : ℕ → Type 0) (to : ℕ) : ℕ → List ℕ → Type 0 where
-  none : {from : ℕ} → Steady Still from to → Changes Still to from []
-  next : {from t : ℕ} {ts : List ℕ} → from ≤ t → t < to → Steady Still from t → (Still t → ⊥) → Changes Still to (suc t) ts → Changes Still to from (t ∷ ts)
+-- the list has just the ticks from `from` on, below `to`, at which the line is not stable, the earliest first
+pub data Changes (Stable : ℕ → Type 0) (to : ℕ) : ℕ → List ℕ → Type 0 where
+  none : {from : ℕ} → StableOn Stable from to → Changes Stable to from []
+  next : {from t : ℕ} {ts : List ℕ} → from ≤ t → t < to → StableOn Stable from t → (Stable t → ⊥) → Changes Stable to (suc t) ts → Changes Stable to from (t ∷ ts)
 
--- there are at most so many of them
-pub record AtMost (k : ℕ) (Still : ℕ → Type 0) (from to : ℕ) : Type 0 where
+-- there are at most k of them
+pub record AtMost (k : ℕ) (Stable : ℕ → Type 0) (from to : ℕ) : Type 0 where
   pub ticks : List ℕ
-  pub changes : Changes Still to from ticks
+  pub changes : Changes Stable to from ticks
   pub few : length ticks ≤ k
 
--- there are exactly so many of them
-pub record Exactly (k : ℕ) (Still : ℕ → Type 0) (from to : ℕ) : Type 0 where
+-- there are exactly k of them
+pub record Exactly (k : ℕ) (Stable : ℕ → Type 0) (from to : ℕ) : Type 0 where
   pub ticks : List ℕ
-  pub changes : Changes Still to from ticks
-  pub many : length ticks ≡ k
+  pub changes : Changes Stable to from ticks
+  pub count : length ticks ≡ k

@@ -4,7 +4,7 @@ use Rattle.std.specs.List.{list_all}
 use Rattle.netlist.specs.Gates.{Gate, Circuit, legal}
 use Rattle.netlist.specs.Walks.{no_gate, reads}
 use Rattle.semantics.specs.Nets.{Driver, Net}
-use Rattle.semantics.specs.Nets.Driver.{nothing, input, gate}
+use Rattle.semantics.specs.Nets.Driver.{undriven, input, gate}
 
 abbrev pub lines : Circuit → ℕ
 lines c = c.inputs + length c.gates
@@ -14,8 +14,8 @@ gate_of_line c n = slice_index_or c.gates (n - suc c.inputs) no_gate
 
 -- lines are numbered from 1: first the inputs, then the gates
 abbrev pub driver : Circuit → ℕ → Driver
-driver c zero = nothing
-driver c (suc k) = cond (nat_lt k c.inputs) input (cond (nat_lt k (lines c)) gate nothing)
+driver c zero = undriven
+driver c (suc k) = cond (nat_lt k c.inputs) input (cond (nat_lt k (lines c)) gate undriven)
 
 -- a gate line is settled beyond the lines that its gate reads by the gate's delay
 abbrev pub net : Circuit → Net

@@ -1,4 +1,5 @@
--- Initial values and values, computed. Nothing in here has to be believed: that it obeys the rule, and alone does, is a law.
+-- Initial values and values, computed. Nothing here has to be believed: it is a law that they obey the rule, and nothing else
+-- does.
 use Rattle.std.specs.Prelude.{ℕ, zero, suc, ◌-◌, Bool, true, false, ◌&&◌, ◌||◌, map, nat_lt, ◌==◌}
 use Rattle.std.specs.List.{list_any}
 use Rattle.netlist.specs.Gates.{Circuit}
@@ -7,9 +8,9 @@ use Rattle.values.specs.Systems.{System}
 use Rattle.gates.specs.Functions.{gate_function}
 use Rattle.semantics.specs.Circuits.{lines, gate_of_line, driver, net}
 use Rattle.semantics.specs.Nets.{Rule, Setup}
-use Rattle.semantics.specs.Nets.Driver.{nothing, input, gate}
+use Rattle.semantics.specs.Nets.Driver.{undriven, input, gate}
 
--- a walk leads from line m to line n, on which all lines between the two are below k
+-- a walk leads from line m to line n whose inner lines are all below k
 unfoldable pub leads : Circuit → ℕ → ℕ → ℕ → Bool
 leads c zero m n = list_any (λ j. j == m) (reads c n)
 leads c (suc k) m n = leads c k m n || (leads c k m k && leads c k k n)
@@ -21,7 +22,7 @@ looped c n = leads c (suc (lines c)) n n
 module _ {M : Type 0} (s : System M) (c : Circuit) (start : ℕ → M) where
   -- the initial value of a line, where those of the lines that its gate reads are known
   abbrev pub begin : (ℕ → M) → ℕ → M
-  begin known n = elim (driver c n) [ nothing ↦ s.start | input ↦ start n | gate ↦ elim (looped c n) [ true ↦ s.start | false ↦ gate_function s (gate_of_line c n).kind (map known (reads c n)) ] ]
+  begin known n = elim (driver c n) [ undriven ↦ s.start | input ↦ start n | gate ↦ elim (looped c n) [ true ↦ s.start | false ↦ gate_function s (gate_of_line c n).kind (map known (reads c n)) ] ]
 
   -- initial values to a depth of so many gates
   unfoldable pub begin_to : ℕ → ℕ → M
@@ -32,13 +33,13 @@ module _ {M : Type 0} (s : System M) (c : Circuit) (start : ℕ → M) where
   unfoldable pub initial : ℕ → M
   initial n = begin_to (suc (lines c)) n
 
-  module _ (wave : ℕ → ℕ → M) where
+  module _ (waveform : ℕ → ℕ → M) where
     -- the value of a line at a tick, where those of the lines that its gate reads are known at earlier ticks
     abbrev pub follow : (ℕ → ℕ → M) → ℕ → ℕ → M
     follow known n t =
         elim (driver c n) [
-          | nothing ↦ s.start
-          | input ↦ wave n t
+          | undriven ↦ s.start
+          | input ↦ waveform n t
           | gate ↦
               elim (nat_lt t (gate_of_line c n).delay) [
                 | true ↦ initial n

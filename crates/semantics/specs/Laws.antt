@@ -1,52 +1,60 @@
 -- The laws of settled lines.
-use Rattle.std.specs.Prelude.{◌≡◌, ℕ, Bool, List}
+use Rattle.std.specs.Prelude.{◌≡◌, ◌↔◌, ℕ, ◌+◌, ◌<◌, ◌≤◌, ◌⊎◌, List}
 use Rattle.netlist.specs.Gates.{Circuit}
 use Rattle.values.specs.Systems.{System}
-use Rattle.semantics.specs.Accounts.{Account, settled, Still, Kept}
+use Rattle.semantics.specs.Accounts.{Account, settled, goal, Stable, Kept}
 use Rattle.semantics.specs.Changes.{AtMost}
 use Rattle.semantics.specs.Circuits.{net}
 use Rattle.semantics.specs.Comparisons.{Stays, Alike, Agree, GivenTied, LinesTied}
 use Rattle.semantics.specs.Computed.{initial, value}
 use Rattle.semantics.specs.Distances.{Distance}
-use Rattle.semantics.specs.Logs.{Run, Steps, Log}
-use Rattle.semantics.specs.Moves.{CanTake, Takeable, Rest}
-use Rattle.semantics.specs.Nets.{Line, Setup}
+use Rattle.semantics.specs.Logs.{Ending, Run, Steps, Log}
+use Rattle.semantics.specs.Moves.{CanTake, Takeable, Rests, Rest}
+use Rattle.semantics.specs.Nets.{IsGate, IsLine, Setup}
 use Rattle.semantics.specs.Rules.{Begins, Obeys}
 
 -- Whatever the inputs are given, the computed initial values and values obey the rule of a line, and no others do.
-pub record OneAnswer {M : Type 0} (s : System M) (c : Circuit) (start : ℕ → M) (wave : ℕ → ℕ → M) : Type 0 where
+pub record OnlyTheseObey {M : Type 0} (s : System M) (c : Circuit) (start : ℕ → M) (waveform : ℕ → ℕ → M) : Type 0 where
   pub begins : Begins s c start (initial s c start)
-  pub obeys : Obeys s c (initial s c start) wave (value s c start wave)
-  pub no_other_begins : (init : ℕ → M) → Begins s c start init → (n : ℕ) → Line (net c) n → init n ≡ initial s c start n
-  pub no_other_obeys : (init : ℕ → M) (v : ℕ → ℕ → M) → Begins s c start init → Obeys s c init wave v → (n t : ℕ) → Line (net c) n → v n t ≡ value s c start wave n t
+  pub obeys : Obeys s c (initial s c start) waveform (value s c start waveform)
+  pub no_other_begins : (init : ℕ → M) → Begins s c start init → (n : ℕ) → IsLine (net c) n → init n ≡ initial s c start n
+  pub no_other_obeys : (init : ℕ → M) (v : ℕ → ℕ → M) → Begins s c start init → Obeys s c init waveform v → (n t : ℕ) → IsLine (net c) n → v n t ≡ value s c start waveform n t
 
-abbrev pub RuleHasOneAnswer : {M : Type 0} → System M → Circuit → Type 0
-RuleHasOneAnswer {M} s c = (start : ℕ → M) (wave : ℕ → ℕ → M) → OneAnswer s c start wave
+abbrev pub RuleDeterminesValues : {M : Type 0} → System M → Circuit → Type 0
+RuleDeterminesValues {M} s c = (start : ℕ → M) (waveform : ℕ → ℕ → M) → OnlyTheseObey s c start waveform
 
 module _ {M : Type 0} (s : Setup M) where
   -- Each line has one list of kept changes, and there is room for it.
-  pub record Fit (a : Account M) : Type 0 where
-    pub in_room : (n : ℕ) → AtMost s.room (Still s a n) a.trim (settled s.net a n)
+  pub record KeptInRoom (a : Account M) : Type 0 where
+    pub in_room : (n : ℕ) → AtMost s.room (Stable s a n) a.trim (settled s.net a n)
     pub one_list : (n : ℕ) (ts us : List ℕ) → Kept s a n ts → Kept s a n us → ts ≡ us
 
   abbrev pub KeptChangesFit : Type 0
-  KeptChangesFit = (a : Account M) → Log s a → Fit a
+  KeptChangesFit = (a : Account M) → Log s a → KeptInRoom a
 
-  -- At rest no gate can be taken. Where no gate can be taken is rest, if it can be told at which ticks lines change.
-  pub record WhereNoneIsLeft (a : Account M) : Type 0 where
-    pub none_at_rest : Rest s a → (n : ℕ) → Takeable s a n → ⊥
-    pub only_there : ((n t : ℕ) → Line s.net n → Dec (Still s a n t)) → ((n : ℕ) → Takeable s a n → ⊥) → Rest s a
+  -- it can be told where a gate's line changes on the way from its settled time to where its goal would let it be settled
+  abbrev pub ToldOnTheWay : Account M → ℕ → Type 0
+  ToldOnTheWay a n = (t : ℕ) → settled s.net a n ≤ t → t < goal s.net a n + s.net.lag n → Dec (Stable s a n t)
 
+  -- A gate rests or can be taken, and not both.
+  pub record EitherRestsOrMoves (a : Account M) (n : ℕ) : Type 0 where
+    pub one_of_both : ToldOnTheWay a n → Rests s a n ⊎ Takeable s a n
+    pub not_both : Rests s a n → Takeable s a n → ⊥
+
+  abbrev pub GatesRestOrCanBeTaken : Type 0
+  GatesRestOrCanBeTaken = (a : Account M) → Log s a → (n : ℕ) → IsGate s.net n → EitherRestsOrMoves a n
+
+  -- At rest, and only there, no gate can be taken.
   abbrev pub RestIsWhereNoGateCanBeTaken : Type 0
-  RestIsWhereNoGateCanBeTaken = (a : Account M) → Log s a → WhereNoneIsLeft a
+  RestIsWhereNoGateCanBeTaken = (a : Account M) → Log s a → Rest s a ↔ ((n : ℕ) → Takeable s a n → ⊥)
 
-  -- A take leads to one front. A run leads to one account, tells one number of takes, and one word on rest.
-  pub record OneOutcome (a : Account M) : Type 0 where
-    pub of_take : (n front other : ℕ) → CanTake s a n front → CanTake s a n other → front ≡ other
-    pub of_run : (most count other : ℕ) (rest word : Bool) (b d : Account M) → Run s most a b count rest → Run s most a d other word → (b ≡ d) × (count ≡ other) × (rest ≡ word)
+  -- A take can lead to one front only. A run can lead to one account only, make one number of takes, and end in one way.
+  pub record Determined (a : Account M) : Type 0 where
+    pub take : (n front other : ℕ) → CanTake s a n front → CanTake s a n other → front ≡ other
+    pub run : (most count other : ℕ) (ending otherwise : Ending) (b d : Account M) → Run s most a b count ending → Run s most a d other otherwise → (b ≡ d) × (count ≡ other) × (ending ≡ otherwise)
 
-  abbrev pub CallsHaveOneOutcome : Type 0
-  CallsHaveOneOutcome = (a : Account M) → Log s a → OneOutcome a
+  abbrev pub CallsAreDetermined : Type 0
+  CallsAreDetermined = (a : Account M) → Log s a → Determined a
 
   -- Whatever is called after a log, what is settled stays.
   abbrev pub SettledValuesStay : Type 0
@@ -54,9 +62,9 @@ module _ {M : Type 0} (s : Setup M) where
 
   -- At every rest each line is settled exactly to its distance.
   abbrev pub SettledIsTheDistance : Type 0
-  SettledIsTheDistance = (a : Account M) → Log s a → Rest s a → (n : ℕ) → Line s.net n → Distance s a n (settled s.net a n)
+  SettledIsTheDistance = (a : Account M) → Log s a → Rest s a → (n : ℕ) → IsLine s.net n → Distance s a n (settled s.net a n)
 
-  -- Whatever the cut and the order of two logs, their rests agree if they are alike.
+  -- Whatever the cut and the order of two logs, they agree at rest if they are alike.
   abbrev pub AlikeRestsAgree : Type 0
   AlikeRestsAgree = (a b : Account M) → Log s a → Log s b → Rest s a → Rest s b → Alike s a b → Agree s a b
 

@@ -1,21 +1,21 @@
 -- How an account changes, call by call.
 use Rattle.std.specs.Prelude.{◌≡◌, ℕ, ◌+◌, ◌<◌, ◌≤◌, cond, nat_lt, ◌==◌, ◌⊎◌}
 use Rattle.semantics.specs.Changes.{AtMost}
-use Rattle.semantics.specs.Nets.{Input, Gate, Setup}
-use Rattle.semantics.specs.Accounts.{Account, goal, Still, Overflows}
+use Rattle.semantics.specs.Nets.{IsInput, IsGate, Setup}
+use Rattle.semantics.specs.Accounts.{Account, goal, Stable, Overflows}
 
 -- a function of lines with another answer for one line
 abbrev pub put : {X : Type 0} → (ℕ → X) → ℕ → X → ℕ → X
 put f n x m = cond (m == n) x (f m)
 
 module _ {M : Type 0} where
-  -- all is new: nothing is given but the inputs' initial values
+  -- nothing is given yet but the inputs' initial values
   abbrev pub made : (ℕ → M) → Account M
-  made start = record { start = start; wave = λ n t. start n; end = λ n. 0; front = λ n. 0; trim = 0 }
+  made start = record { start = start; waveform = λ n t. start n; end = λ n. 0; front = λ n. 0; trim = 0 }
 
   -- the input keeps its last value up to the tick, where the new value begins
   abbrev pub fed : Account M → ℕ → ℕ → M → Account M
-  fed a n t v = record a { wave = put a.wave n (λ u. cond (nat_lt u t) (a.wave n u) v); end = put a.end n (t + 1) }
+  fed a n t v = record a { waveform = put a.waveform n (λ u. cond (nat_lt u t) (a.waveform n u) v); end = put a.end n (t + 1) }
 
   -- the input keeps its last value up to the tick
   abbrev pub held : Account M → ℕ → ℕ → Account M
@@ -28,31 +28,31 @@ module _ {M : Type 0} where
   trimmed a t = record a { trim = t }
 
   module _ (s : Setup M) (a : Account M) where
-    -- an input can be fed from its end on, up to a limit, if there is room for the change that this makes
+    -- an input can be fed at its end or later, up to a limit, if there is room for the change that this makes
     pub record CanFeed (n t : ℕ) (v : M) : Type 0 where
-      pub an_input : Input s.net n
+      pub an_input : IsInput s.net n
       pub not_past : a.end n ≤ t
       pub in_time : t ≤ 1999999999
-      pub fits : AtMost s.room (Still s (fed a n t v) n) a.trim (t + 1)
+      pub fits : AtMost s.room (Stable s (fed a n t v) n) a.trim (t + 1)
 
     pub record CanHold (n t : ℕ) : Type 0 where
-      pub an_input : Input s.net n
+      pub an_input : IsInput s.net n
       pub not_past : a.end n ≤ t
       pub in_time : t ≤ 2000000000
 
     -- A gate can be taken to a front beyond its own: to its goal, or to where a change comes for which there is no room.
     pub record CanTake (n front : ℕ) : Type 0 where
-      pub a_gate : Gate s.net n
+      pub a_gate : IsGate s.net n
       pub onward : a.front n < front
       pub not_beyond : front ≤ goal s.net a n
-      pub fits : AtMost s.room (Still s a n) a.trim (front + s.net.lag n)
+      pub fits : AtMost s.room (Stable s a n) a.trim (front + s.net.lag n)
       pub stops : (front ≡ goal s.net a n) ⊎ Overflows s a n (front + s.net.lag n)
 
-    -- changes can be dropped below a tick that no end or front has yet to reach
+    -- changes can be dropped below a tick that every end and every front has reached
     pub record CanTrim (t : ℕ) : Type 0 where
       pub not_past : a.trim ≤ t
-      pub ends_reach : (n : ℕ) → Input s.net n → t ≤ a.end n
-      pub fronts_reach : (n : ℕ) → Gate s.net n → t ≤ a.front n
+      pub ends_reach : (n : ℕ) → IsInput s.net n → t ≤ a.end n
+      pub fronts_reach : (n : ℕ) → IsGate s.net n → t ≤ a.front n
 
     -- the gate can be taken to some front
     pub record Takeable (n : ℕ) : Type 0 where
@@ -71,4 +71,4 @@ module _ {M : Type 0} where
 
     -- An account is at rest where every gate rests.
     abbrev pub Rest : Type 0
-    Rest = (n : ℕ) → Gate s.net n → Rests n
+    Rest = (n : ℕ) → IsGate s.net n → Rests n

@@ -1,16 +1,21 @@
-// The laws of settled lines in one value system, for all wired circuits, for room for any number of changes of a line, and
-// for all logs.
-ghost use Rattle.std.specs.Prelude.{ℕ};
+// The laws of settled lines in one value system, for all wired circuits, rooms and logs.
+ghost use Rattle.std.specs.Prelude.{◌≡◌, ℕ};
 ghost use Rattle.netlist.specs.Gates.{Circuit};
 ghost use Rattle.semantics.specs.Circuits.{Wired};
 ghost use Rattle.semantics.specs.Computed.{setup};
-ghost use Rattle.semantics.specs.Laws.{RuleHasOneAnswer, KeptChangesFit, RestIsWhereNoGateCanBeTaken, CallsHaveOneOutcome, SettledValuesStay, SettledIsTheDistance, AlikeRestsAgree};
+ghost use Rattle.semantics.specs.Laws.{RuleDeterminesValues, KeptChangesFit, GatesRestOrCanBeTaken, RestIsWhereNoGateCanBeTaken, CallsAreDetermined, SettledValuesStay, SettledIsTheDistance, AlikeRestsAgree};
+ghost use Rattle.values.specs.Knowledge.{three_valued};
+ghost use Rattle.values.specs.Lanes.{lanes};
+ghost use Rattle.values.specs.Systems.{two_valued};
 
+use values::bit::Bit;
+use values::lanes::Lanes;
 use values::system::ValueSystem;
+use values::ternary::Ternary;
 
-// Whatever the inputs are given, there is one way for lines to begin and to go on that obeys the rule.
-pub fn the_rule_has_one_answer<V: ValueSystem>()
-    ensures in_every_circuit { (c : Circuit) → Wired c → RuleHasOneAnswer V.system c }
+// Whatever the inputs are given, just one way to begin and to go on obeys the rule of a line.
+pub fn the_rule_determines_values<V: ValueSystem>()
+    ensures in_every_circuit { (c : Circuit) → Wired c → RuleDeterminesValues V.system c }
 {}
 
 // In every log each line has one list of kept changes, and there is room for it.
@@ -18,14 +23,30 @@ pub fn kept_changes_fit<V: ValueSystem>()
     ensures in_every_log { (c : Circuit) (room : ℕ) → Wired c → KeptChangesFit (setup V.system c room) }
 {}
 
-// A log is at rest just where none of its gates can be taken.
-pub fn rest_is_where_no_gate_can_be_taken<V: ValueSystem>()
-    ensures in_every_log { (c : Circuit) (room : ℕ) → Wired c → RestIsWhereNoGateCanBeTaken (setup V.system c room) }
+// Every gate rests or can be taken, and not both.
+pub fn gates_rest_or_can_be_taken<V: ValueSystem>()
+    ensures in_every_log { (c : Circuit) (room : ℕ) → Wired c → GatesRestOrCanBeTaken (setup V.system c room) }
 {}
 
-// A take or a run leads from an account to one account, and a run has one answer.
-pub fn calls_have_one_outcome<V: ValueSystem>()
-    ensures after_every_log { (c : Circuit) (room : ℕ) → Wired c → CallsHaveOneOutcome (setup V.system c room) }
+// At rest, and only there, no gate can be taken.
+pub fn rest_is_where_no_gate_can_be_taken<V: ValueSystem>()
+    ensures where_meanings_can_be_compared { ((x y : V.Sense) → Dec (x ≡ y)) → (c : Circuit) (room : ℕ) → Wired c → RestIsWhereNoGateCanBeTaken (setup V.system c room) }
+{}
+
+// In each of the three systems they can be compared.
+pub fn rest_is_so_in_the_three_systems()
+    ensures in_two_values { (c : Circuit) (room : ℕ) → Wired c → RestIsWhereNoGateCanBeTaken (setup two_valued c room) }
+    ensures in_three_values { (c : Circuit) (room : ℕ) → Wired c → RestIsWhereNoGateCanBeTaken (setup three_valued c room) }
+    ensures in_lanes { (c : Circuit) (room : ℕ) → Wired c → RestIsWhereNoGateCanBeTaken (setup lanes c room) }
+{
+    rest_is_where_no_gate_can_be_taken::<Bit>();
+    rest_is_where_no_gate_can_be_taken::<Ternary>();
+    rest_is_where_no_gate_can_be_taken::<Lanes>();
+}
+
+// A take, and a run, leads from an account to one account only, and a run has one answer only.
+pub fn calls_are_determined<V: ValueSystem>()
+    ensures after_every_log { (c : Circuit) (room : ℕ) → Wired c → CallsAreDetermined (setup V.system c room) }
 {}
 
 // No call makes a line settled less, or alters a value that is settled.
@@ -38,7 +59,7 @@ pub fn settled_is_the_distance<V: ValueSystem>()
     ensures at_every_rest { (c : Circuit) (room : ℕ) → Wired c → SettledIsTheDistance (setup V.system c room) }
 {}
 
-// Two logs at rest that were given the same agree, however they were cut and in whatever order they ran.
+// Two logs that were given the same agree once both are at rest, however they were cut and in whatever order gates were taken.
 pub fn alike_rests_agree<V: ValueSystem>()
     ensures whatever_the_order { (c : Circuit) (room : ℕ) → Wired c → AlikeRestsAgree (setup V.system c room) }
 {}

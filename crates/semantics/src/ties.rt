@@ -1,12 +1,12 @@
 // Logs in related value systems have related values, also where the rooms are not the same.
-ghost use Rattle.std.specs.Prelude.{◌≡◌, ℕ, true, Contains};
+ghost use Rattle.std.specs.Prelude.{◌≡◌, ℕ, Bool, true, Contains};
 ghost use Rattle.netlist.specs.Gates.{Circuit};
 ghost use Rattle.semantics.specs.Circuits.{Wired};
 ghost use Rattle.semantics.specs.Computed.{setup};
 ghost use Rattle.semantics.specs.Laws.{TiesLines};
 ghost use Rattle.values.specs.Knowledge.{three_valued, stands_for};
 ghost use Rattle.values.specs.Lanes.{lanes};
-ghost use Rattle.values.specs.Relations.{Tied};
+ghost use Rattle.values.specs.Relations.{Kept, Tied};
 ghost use Rattle.values.specs.Systems.{two_valued};
 
 use values::bit::Bit;
@@ -26,6 +26,11 @@ pub fn kept_relations_tie_lines<V: ValueSystem, W: ValueSystem, R: Relation<V, W
 {
     relation.ties(V::START, W::START)
 }
+
+// The same for all relations of meanings that a test decides.
+pub fn kept_tests_tie_lines<V: ValueSystem, W: ValueSystem>()
+    ensures tie_lines { (test : V.Sense → W.Sense → Bool) → Kept V.system W.system (λ left right. test left right ≡ true) → (c : Circuit) (room other : ℕ) → Wired c → TiesLines (setup V.system c room) (setup W.system c other) (λ left right. test left right ≡ true) }
+{}
 
 // Each lane of a simulation of words is a simulation of bits.
 pub fn a_lane_simulates_bits(lane: Lane) -> bool

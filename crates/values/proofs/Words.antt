@@ -66,7 +66,7 @@ record Built (wanted : Lane → Bool) (n : ℕ) : Type 0 where
   has : (lane : Lane) → lane.place < n → bits number lane ≡ wanted lane
 
 -- lanes in one place are one lane
-same_lane : (wanted : Lane → Bool) (a b : Lane) → a.place ≡ b.place → wanted a ≡ wanted b
+pub same_lane : (wanted : Lane → Bool) (a b : Lane) → a.place ≡ b.place → wanted a ≡ wanted b
 same_lane wanted a b e = subst (λ n. (h : n < 64) → wanted a ≡ wanted (record { place = n; in_word = h })) e (λ h. ap (λ k. wanted (record { place = a.place; in_word = k })) (le_prop a.in_word h)) b.in_word
 
 -- the bit of one lane more, as the highest digit

@@ -16,13 +16,13 @@ pub fn times_with_a_full_line() -> [u32; 3]
     [20, 22, 13]
 }
 
-// The same once the first change of line 3 is dropped.
+// How far the two gate lines are settled once the first change of line 3 is dropped.
 #[tactic(auto, using(crate::proofs::Working::freed_line))]
-pub fn times_once_freed() -> [u32; 3]
-    ensures are_settled_times { result ≡ settled_times pulse freed (1 ∷ 2 ∷ 3 ∷ []) }
+pub fn times_once_freed() -> [u32; 2]
+    ensures are_settled_times { result ≡ settled_times pulse freed (2 ∷ 3 ∷ []) }
     ensures at_a_rest { FreedLine }
 {
-    [20, 22, 21]
+    [22, 21]
 }
 
 // How far the full line is settled, and a line that reads it with a delay of 4.

@@ -1,6 +1,6 @@
 -- Alike accounts at rest agree, since a distance hangs on nothing but what they are alike in.
 use Rattle.std.proofs.Common.{◌≡◌, ◌↔◌, ℕ, ◌+◌, ◌<◌, ◌≤◌, List, sym, subst, arith}
-use Rattle.semantics.specs.Nets.{Setup, IsInput, IsLine, Sound}
+use Rattle.semantics.specs.Nets.{Setup, IsInput, IsLine}
 use Rattle.semantics.specs.Changes.{Changes}
 use Rattle.semantics.specs.Accounts.{Account, settled, initial, value, Stable, Kept}
 use Rattle.semantics.specs.Moves.{Rest}
@@ -8,7 +8,7 @@ use Rattle.semantics.specs.Distances.{Path, LimitedPath, Overfull}
 use Rattle.semantics.specs.Comparisons.{Alike, Agree}
 use Rattle.semantics.proofs.Goals.{settled_input}
 use Rattle.semantics.proofs.Listing.{alike}
-use Rattle.semantics.proofs.Locality.{Horizon, Local}
+use Rattle.semantics.proofs.Locality.{Horizon, Local, Sound}
 use Rattle.semantics.proofs.Invariants.{Held, settled_horizon, stable_alike}
 use Rattle.semantics.proofs.Settling.{settled_is_distance}
 

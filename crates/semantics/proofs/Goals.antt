@@ -1,9 +1,10 @@
 -- Settled times and goals.
 use Rattle.std.proofs.Common.{◌≡◌, ℕ, zero, suc, ◌+◌, ◌<◌, ◌≤◌, min, ◌⊎◌, List, [], ◌∷◌, map, length, get_or, refl, ap, sym, ◌∙◌, subst, inl, inr, ⊎_elim, arith, Contains}
 use Rattle.std.specs.Prelude.{fold}
-use Rattle.semantics.specs.Nets.{Driver, Net, IsInput, IsGate, IsLine, ReadsFrom, Sound}
+use Rattle.semantics.specs.Nets.{Driver, Net, IsInput, IsGate, IsLine, ReadsFrom}
 use Rattle.semantics.specs.Nets.Driver.{undriven, input, gate}
 use Rattle.semantics.specs.Accounts.{Account, settled, goal, least}
+use Rattle.semantics.proofs.Locality.{Sound}
 
 module _ {M : Type 0} (net : Net) (a : Account M) (n : ℕ) where
   by_driver : Driver → ℕ

@@ -1,6 +1,12 @@
--- What the laws ask of a rule: values come from earlier ones, and lines follow the lines that they read.
-use Rattle.std.proofs.Common.{◌≡◌, ℕ, suc, ◌+◌, ◌<◌}
+-- What the laws ask of a net and of its rule.
+use Rattle.std.proofs.Common.{◌≡◌, ℕ, suc, ◌+◌, ◌<◌, length}
 use Rattle.semantics.specs.Nets.{Net, Rule, IsInput, IsGate, IsLine, ReadsFrom}
+
+-- every gate needs time and reads some line, and only lines of the net
+pub record Sound (net : Net) : Type 0 where
+  pub takes_time : (n : ℕ) → IsGate net n → 0 < net.lag n
+  pub reads_some : (n : ℕ) → IsGate net n → 0 < length (net.reads n)
+  pub reads_lines : (n m : ℕ) → IsGate net n → ReadsFrom net n m → IsLine net m
 
 -- A horizon is a choice of ticks for each line: with a tick the one before it, and one lag before a tick of a gate line that
 -- tick of each line that the gate reads.

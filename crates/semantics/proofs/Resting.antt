@@ -1,7 +1,7 @@
 -- At rest no gate can be taken; and where it can be told which lines change, some gate can be taken where there is no rest.
 use Rattle.std.proofs.Common.{◌≡◌, ◌↔◌, ℕ, zero, suc, ◌+◌, ◌-◌, ◌<◌, ◌≤◌, ◌⊎◌, ◌++◌, [], ◌∷◌, length, refl, sym, subst, inl, inr, ⊎_elim, arith, length-append, add-zero}
 use Rattle.std.proofs.lemmas.Bool.{cases_lt}
-use Rattle.semantics.specs.Nets.{Setup, IsGate, Sound}
+use Rattle.semantics.specs.Nets.{Setup, IsGate}
 use Rattle.semantics.specs.Changes.{StableOn, AtMost}
 use Rattle.semantics.specs.Accounts.{Account, goal, Stable, Overflows}
 use Rattle.semantics.specs.Laws.{ToldOnTheWay}
@@ -9,6 +9,7 @@ use Rattle.semantics.specs.Moves.{Takeable, Rests, Rest}
 use Rattle.semantics.proofs.Goals.{settled_gate, goal_attained}
 use Rattle.semantics.proofs.Listing.{no_room, onward, one_more}
 use Rattle.semantics.proofs.Invariants.{Held}
+use Rattle.semantics.proofs.Locality.{Sound}
 
 module _ {M : Type 0} (s : Setup M) (a : Account M) where
   pub resting : (n : ℕ) → Rests s a n → Takeable s a n → ⊥

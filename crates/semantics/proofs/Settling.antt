@@ -1,13 +1,14 @@
 -- At rest every line is settled just to its distance.
 use Rattle.std.proofs.Common.{◌≡◌, ℕ, zero, suc, ◌+◌, ◌<◌, ◌≤◌, sym, subst, ⊎_elim, arith}
 use Rattle.std.proofs.lemmas.Bool.{cases_lt}
-use Rattle.semantics.specs.Nets.{Setup, IsInput, IsGate, IsLine, ReadsFrom, Sound}
+use Rattle.semantics.specs.Nets.{Setup, IsInput, IsGate, IsLine, ReadsFrom}
 use Rattle.semantics.specs.Accounts.{Account, settled, goal, Overflows}
 use Rattle.semantics.specs.Moves.{Rest, Rests}
 use Rattle.semantics.specs.Distances.{Path, LimitedPath, Overfull, Distance}
 use Rattle.semantics.proofs.Goals.{settled_input, settled_gate, not_both, goal_each, goal_attained}
 use Rattle.semantics.proofs.Listing.{no_room}
 use Rattle.semantics.proofs.Invariants.{Held}
+use Rattle.semantics.proofs.Locality.{Sound}
 
 module _ {M : Type 0} (s : Setup M) (a : Account M) (h : Held s a) where
   -- a line is settled no further than where a change comes for which there is no room

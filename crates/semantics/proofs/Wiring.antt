@@ -8,9 +8,10 @@ use Rattle.netlist.specs.Gates.{Circuit, legal, fits, delay_fits, on_lines}
 use Rattle.netlist.specs.Walks.{no_gate, reads, Reads}
 use Rattle.netlist.proofs.Ranges.{bounds}
 use Rattle.netlist.proofs.Reading.{reads_at_gate, read_bounds}
-use Rattle.semantics.specs.Nets.{IsInput, IsGate, IsLine, ReadsFrom, Sound}
+use Rattle.semantics.specs.Nets.{IsInput, IsGate, IsLine, ReadsFrom}
 use Rattle.semantics.specs.Nets.Driver.{undriven, input, gate}
 use Rattle.semantics.specs.Circuits.{lines, gate_of_line, net, Wired}
+use Rattle.semantics.proofs.Locality.{Sound}
 
 when_gate : (x y : Bool) → cond x input (cond y gate undriven) ≡ gate → (x ≡ false) × (y ≡ true)
 when_gate true y is = cc

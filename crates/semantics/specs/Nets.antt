@@ -1,5 +1,5 @@
 -- What of a circuit the laws rest on: what drives each line, how long each gate needs, and what gives the lines their values.
-use Rattle.std.specs.Prelude.{◌≡◌, ℕ, ◌<◌, ◌⊎◌, List, length, Contains}
+use Rattle.std.specs.Prelude.{◌≡◌, ℕ, ◌⊎◌, List, Contains}
 
 -- what drives a line
 pub data Driver : Type 0 where
@@ -25,12 +25,6 @@ IsLine net n = IsInput net n ⊎ IsGate net n
 -- the gate of line n reads line m
 abbrev pub ReadsFrom : Net → ℕ → ℕ → Type 0
 ReadsFrom net n m = Contains (net.reads n) m
-
--- every gate needs time and reads some line, and only lines of the net
-pub record Sound (net : Net) : Type 0 where
-  pub takes_time : (n : ℕ) → IsGate net n → 0 < net.lag n
-  pub reads_some : (n : ℕ) → IsGate net n → 0 < length (net.reads n)
-  pub reads_lines : (n m : ℕ) → IsGate net n → ReadsFrom net n m → IsLine net m
 
 -- What gives the lines their values: from the inputs' initial values the initial value of each line, and from those and the
 -- inputs' waveforms the value of each line at each tick.

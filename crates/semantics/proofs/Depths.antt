@@ -1,6 +1,6 @@
 -- How deep a gate line lies that is not looped: how many lines lead to it.
-use Rattle.std.proofs.Common.{◌≡◌, ℕ, zero, suc, ◌+◌, ◌<◌, ◌≤◌, Bool, true, false, cond, refl, ap, ◌∙◌, subst, ⊎_elim, arith}
-use Rattle.std.proofs.lemmas.Bool.{cases_eq, cases_Bool, both_ways}
+use Rattle.std.proofs.Common.{◌≡◌, ℕ, zero, suc, ◌<◌, ◌≤◌, Bool, true, false, cond, refl, ap, ◌∙◌, ⊎_elim, arith}
+use Rattle.std.proofs.lemmas.Bool.{cases_Bool, both_ways}
 use Rattle.netlist.specs.Gates.{Circuit}
 use Rattle.netlist.specs.Walks.{Reads, Walk}
 use Rattle.netlist.proofs.Searching.{joined}
@@ -9,6 +9,7 @@ use Rattle.semantics.specs.Nets.Driver.{undriven, input, gate}
 use Rattle.semantics.specs.Circuits.{lines, driver, net, Wired}
 use Rattle.semantics.specs.Computed.{looped}
 use Rattle.semantics.proofs.Looping.{to, to_passes, to_walks}
+use Rattle.semantics.proofs.Sums.{total, total_more}
 use Rattle.semantics.proofs.Wiring.{gate_range, line_range, read_line}
 
 one_if : Bool → ℕ
@@ -16,34 +17,24 @@ one_if b = cond b 1 0
 
 -- how many numbers below a bound pass a test
 counted : (ℕ → Bool) → ℕ → ℕ
-counted p zero = 0
-counted p (suc k) = one_if (p k) + counted p k
+counted p k = total (λ j. one_if (p j)) k
 
 module _ (p q : ℕ → Bool) (passes_on : (j : ℕ) → p j ≡ true → q j ≡ true) where
   one_more : (j : ℕ) → one_if (p j) ≤ one_if (q j)
   unfolding one_if
   one_more j = ⊎_elim (λ is. let on = passes_on j is in rw (is, on) (omega arith)) (λ is. rw is (omega arith)) (cases_Bool (p j))
 
-  no_fewer : (k : ℕ) → counted p k ≤ counted q k
-  unfolding counted
-  no_fewer zero = omega arith
-  no_fewer (suc k) = let m = one_more k in let f = no_fewer k in omega arith
-
   some_more : (j k : ℕ) → j < k → p j ≡ false → q j ≡ true → counted p k < counted q k
   unfolding counted one_if
-  some_more j zero within fails passes = absurd (omega arith)
-  some_more j (suc k) within fails passes = ⊎_elim (λ same. let f = no_fewer k in at_last same f) (λ other. let m = one_more k in let f = some_more j k (omega (arith, other)) fails passes in omega arith) (cases_eq j k)
-    where
-      at_last : j ≡ k → counted p k ≤ counted q k → one_if (p k) + counted p k < one_if (q k) + counted q k
-      at_last same f = let a : p k ≡ false = subst (λ i. p i ≡ false) same fails in let b : q k ≡ true = subst (λ i. q i ≡ true) same passes in rw (a, b) (omega arith)
+  some_more j k within fails passes = total_more (λ i. one_if (p i)) (λ i. one_if (q i)) one_more j k within (rw (fails, passes) (omega arith))
 
 all_counted : (k : ℕ) → counted (λ j. true) k ≡ k
-unfolding counted one_if
+unfolding counted total one_if
 all_counted zero = refl
 all_counted (suc k) = let e = all_counted k in omega arith
 
 none_counted : (k : ℕ) → counted (λ j. false) k ≡ 0
-unfolding counted one_if
+unfolding counted total one_if
 none_counted zero = refl
 none_counted (suc k) = let e = none_counted k in omega arith
 

@@ -55,7 +55,7 @@ module _ (c : Circuit) where
       (or_cases (leads c k m n) (leads c k m k && leads c k k n) passed)
 
   -- a line that reads another is one
-  read_within : (j m : ℕ) → Reads c j m → j ≤ lines c
+  pub read_within : (j m : ℕ) → Reads c j m → j ≤ lines c
   read_within j m read =
       ⊎_elim (λ past. let none : length (reads c j) ≡ 0 = ap length (reads_past c j past) in absurd (omega (arith, read.within))) (λ within. within) (cases_lt (lines c) j)
 

@@ -1,22 +1,28 @@
 -- The laws, for the rule of circuits.
-use Rattle.std.proofs.Common.{◌≡◌, ℕ}
+use Rattle.std.proofs.Common.{◌≡◌, ℕ, suc, refl, arith}
 use Rattle.netlist.specs.Gates.{Circuit}
+use Rattle.netlist.specs.Judging.{AllReached}
+use Rattle.netlist.specs.Walks.{Reached}
 use Rattle.values.specs.Relations.{Kept}
 use Rattle.values.specs.Systems.{System}
 use Rattle.semantics.specs.Accounts.{Account, value, before}
-use Rattle.semantics.specs.Circuits.{net, Wired}
+use Rattle.semantics.specs.Circuits.{lines, net, Wired}
 use Rattle.semantics.specs.Computed.{rule, setup}
-use Rattle.semantics.specs.Laws.{RuleDeterminesValues, KeptChangesFit, GatesRestOrCanBeTaken, RestIsWhereNoGateCanBeTaken, CallsAreDetermined, SettledValuesStay, SettledIsTheDistance, AlikeRestsAgree, TiesLines}
+use Rattle.semantics.specs.Laws.{RuleDeterminesValues, KeptChangesFit, GatesRestOrCanBeTaken, RestIsWhereNoGateCanBeTaken, CallsAreDetermined, RunsHaveOutcomes, RunsComeToRest, SettledValuesStay, SettledIsTheDistance, AlikeRestsAgree, TiesLines}
 use Rattle.semantics.specs.Logs.{Log}
+use Rattle.semantics.specs.Nets.{IsGate}
 use Rattle.semantics.proofs.Agreeing.{agree}
-use Rattle.semantics.proofs.Invariants.{Held, log_held, steps_go}
+use Rattle.semantics.proofs.Bounding.{bound, bounded}
+use Rattle.semantics.proofs.Invariants.{Held}
+use Rattle.semantics.proofs.Keeping.{log_held, steps_go}
 use Rattle.semantics.proofs.Listing.{one_list}
 use Rattle.semantics.proofs.Outcomes.{one_front, one_run}
+use Rattle.semantics.proofs.Reaching.{outcome, comes_to_rest}
 use Rattle.semantics.proofs.Resting.{resting, rests_or_moves, rest_is_where_none}
 use Rattle.semantics.proofs.Ruling.{begins, obeys, only_initials, only_values, rule_carries, rule_local}
 use Rattle.semantics.proofs.Settling.{settled_is_distance}
 use Rattle.semantics.proofs.Tying.{lines_tied}
-use Rattle.semantics.proofs.Wiring.{sound}
+use Rattle.semantics.proofs.Wiring.{gate_range, gate_below, sound}
 
 module _ {M : Type 0} (s : System M) (c : Circuit) where
   pub rule_determines_values : Wired c → RuleDeterminesValues s c
@@ -46,6 +52,14 @@ module _ {M : Type 0} (s : System M) (c : Circuit) where
 
     pub calls_are_determined : CallsAreDetermined (setup s c room)
     calls_are_determined a log = record { take = one_front (setup s c room) a; run = λ most count other ending otherwise b d one two. one_run (setup s c room) one two }
+
+    pub runs_have_outcomes : ((x y : M) → Dec (x ≡ y)) → RunsHaveOutcomes (setup s c room)
+    runs_have_outcomes compared a log most = outcome (setup s c room) (sound c wired) (suc (lines c)) (gate_below c) compared most a (held a log)
+
+    pub runs_come_to_rest : ((x y : M) → Dec (x ≡ y)) → AllReached c → RunsComeToRest (setup s c room)
+    runs_come_to_rest compared reached a log =
+        let by_line : (n : ℕ) → IsGate (net c) n → Reached c n = λ n a_gate. let range = gate_range c n a_gate in reached n range.0 (omega (arith, range.1)) in
+        comes_to_rest (setup s c room) (sound c wired) (suc (lines c)) (gate_below c) compared a.end (bound c (rule s c) room a.end by_line) (bounded c (rule s c) room a.end by_line) a refl (held a log)
 
     pub settled_values_stay : SettledValuesStay (setup s c room)
     settled_values_stay a b log steps = (steps_go (setup s c room) (rule_local s c wired) (held a log) steps).stays

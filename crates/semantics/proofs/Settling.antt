@@ -23,7 +23,7 @@ module _ {M : Type 0} (s : Setup M) (a : Account M) (h : Held s a) where
   gate_bound n m far a_gate read within = let e = settled_gate s.net a n a_gate in let f = h.follows n m a_gate read in omega arith
 
   -- a line is settled no further than any path is long
-  path_bound : {n far : ℕ} → Path s a n far → settled s.net a n ≤ far
+  pub path_bound : {n far : ℕ} → Path s a n far → settled s.net a n ≤ far
   path_bound (Path.from_input {n = n} an_input) = input_bound n an_input
   path_bound (Path.through {m = m} {n = n} {far = far} a_gate read path) = gate_bound n m far a_gate read (path_bound path)
 

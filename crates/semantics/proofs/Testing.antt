@@ -52,17 +52,19 @@ module _ (c : Circuit) where
       at_driver input is = cc
       at_driver gate is = refl
 
+  -- a test for inputs or a test for gates
+  abbrev pub on_driver : Bool → Bool → Driver → Bool
+  on_driver p q d = elim d [ undriven ↦ true | input ↦ p | gate ↦ q ]
+
   -- a test of each input and a test of each gate
   abbrev pub each : (ℕ → Bool) → (ℕ → Bool) → Bool
-  each p q = up_to (λ n. elim (driver c n) [ undriven ↦ true | input ↦ p n | gate ↦ q n ]) (lines c)
+  each p q = up_to (λ n. on_driver (p n) (q n) (driver c n)) (lines c)
 
   each_input : (p q : ℕ → Bool) → each p q ≡ true → (n : ℕ) → IsInput (net c) n → p n ≡ true
-  each_input p q passed n an_input =
-      ap (λ (d : Driver). elim d [ undriven ↦ true | input ↦ p n | gate ↦ q n ]) (sym an_input) ∙ up_to_each (λ n. elim (driver c n) [ undriven ↦ true | input ↦ p n | gate ↦ q n ]) (lines c) n passed (line_range c n (inl an_input))
+  each_input p q passed n an_input = ap (on_driver (p n) (q n)) (sym an_input) ∙ up_to_each (λ n. on_driver (p n) (q n) (driver c n)) (lines c) n passed (line_range c n (inl an_input))
 
   each_gate : (p q : ℕ → Bool) → each p q ≡ true → (n : ℕ) → IsGate (net c) n → q n ≡ true
-  each_gate p q passed n a_gate =
-      ap (λ (d : Driver). elim d [ undriven ↦ true | input ↦ p n | gate ↦ q n ]) (sym a_gate) ∙ up_to_each (λ n. elim (driver c n) [ undriven ↦ true | input ↦ p n | gate ↦ q n ]) (lines c) n passed (line_range c n (inr a_gate))
+  each_gate p q passed n a_gate = ap (on_driver (p n) (q n)) (sym a_gate) ∙ up_to_each (λ n. on_driver (p n) (q n) (driver c n)) (lines c) n passed (line_range c n (inr a_gate))
 
 module _ {M : Type 0} (e : Equality M) (s : System M) (c : Circuit) (room : ℕ) where
   abbrev S : Setup M

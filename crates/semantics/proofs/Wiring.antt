@@ -31,6 +31,9 @@ gate_range c (suc k) is =
     let within = ltb-true k (lines c) tests.1 in
     (omega arith, omega arith)
 
+pub gate_below : (c : Circuit) (n : ℕ) → IsGate (net c) n → n < suc (lines c)
+gate_below c n is = let range = gate_range c n is in omega (arith, range.1)
+
 pub input_range : (c : Circuit) (n : ℕ) → IsInput (net c) n → (1 ≤ n) × (n ≤ c.inputs)
 input_range c zero is = cc
 input_range c (suc k) is = let within = ltb-true k c.inputs (when_input (ltb k c.inputs) (ltb k (lines c)) is) in (omega arith, omega arith)

@@ -1,7 +1,8 @@
 -- The worked logs: each of their calls passes its test.
-use Rattle.std.proofs.Common.{◌≡◌, ℕ, ◌≤◌, Bool, true, false, cond, ltb, [], ◌∷◌, refl, sym, subst, arith, Contains}
+use Rattle.std.proofs.Common.{◌≡◌, ℕ, ◌≤◌, Bool, true, false, cond, ltb, [], ◌∷◌, refl, sym, subst, ◌⊎◌, ⊎_elim, arith, Contains}
 use Rattle.netlist.specs.Gates.{Circuit}
-use Rattle.netlist.specs.Walks.{Walk}
+use Rattle.netlist.specs.Judging.{AllReached}
+use Rattle.netlist.specs.Walks.{Walk, Reached}
 use Rattle.values.specs.Knowledge.{three_valued, stands_for}
 use Rattle.values.specs.Systems.{two_valued}
 use Rattle.values.specs.declared.ternary.Ternary.TheVariants.{Zero, One, X}
@@ -34,10 +35,20 @@ full_rests : AtRest (bits 1) stopped
 unfolding initial value begin_to follow_to looped leads
 full_rests = record { log = then_run equal_bits two_valued pulse 1 given_log full_run; rest = at_rest equal_bits two_valued pulse 1 stopped refl }
 
+-- both gates read line 1
+reached : AllReached pulse
+reached n past below =
+    ⊎_elim (λ is. subst (Reached pulse) (sym is) (record { from = 1; not_before = omega arith; not_after = omega arith; walk = Walk.step (record { place = 0; within = omega arith; is = refl }) }))
+    (λ is. subst (Reached pulse) (sym is) (record { from = 1; not_before = omega arith; not_after = omega arith; walk = Walk.step (record { place = 0; within = omega arith; is = refl }) })) two
+  where
+    two : (n ≡ 2) ⊎ (n ≡ 3)
+    two = grind arith
+
 pub full_line : FullLine
 unfolding initial value begin_to follow_to looped leads
 full_line = record {
   wired = refl;
+  reached = reached;
   run = full_run;
   rests = full_rests;
   kept = listed_to equal_bits two_valued pulse 1 stopped 3 13 (11 ∷ []) (omega arith) refl;

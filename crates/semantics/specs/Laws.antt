@@ -56,6 +56,28 @@ module _ {M : Type 0} (s : Setup M) where
   abbrev pub CallsAreDetermined : Type 0
   CallsAreDetermined = (a : Account M) → Log s a → Determined a
 
+  -- what a run comes to and tells
+  pub record Outcome (most : ℕ) (a : Account M) : Type 0 where
+    pub end : Account M
+    pub count : ℕ
+    pub ending : Ending
+    pub run : Run s most a end count ending
+
+  -- A run of any number of takes has an outcome.
+  abbrev pub RunsHaveOutcomes : Type 0
+  RunsHaveOutcomes = (a : Account M) → Log s a → (most : ℕ) → Outcome most a
+
+  -- some number of takes is enough: all runs of so many or more make just these, and end at one rest
+  pub record ComesToRest (a : Account M) : Type 0 where
+    pub enough : ℕ
+    pub end : Account M
+    pub rest : Rest s end
+    pub runs : (most : ℕ) → enough ≤ most → Run s most a end enough Ending.rest
+
+  -- Every log can be brought to rest.
+  abbrev pub RunsComeToRest : Type 0
+  RunsComeToRest = (a : Account M) → Log s a → ComesToRest a
+
   -- Whatever is called after a log, what is settled stays.
   abbrev pub SettledValuesStay : Type 0
   SettledValuesStay = (a b : Account M) → Log s a → Steps s a b → Stays s a b

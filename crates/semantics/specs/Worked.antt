@@ -2,6 +2,7 @@
 use Rattle.std.specs.Prelude.{ℕ, Bool, true, false, List, [], ◌∷◌, map, fold, Contains}
 use Rattle.netlist.specs.declared.kind.Kind.{Kind}
 use Rattle.netlist.specs.Gates.{Gate, Circuit}
+use Rattle.netlist.specs.Judging.{AllReached}
 use Rattle.netlist.specs.Walks.{Looped}
 use Rattle.values.specs.Knowledge.{three_valued, stands_for}
 use Rattle.values.specs.Systems.{two_valued}
@@ -48,6 +49,7 @@ stopped = taken (taken given 2 20) 3 12
 
 pub record FullLine : Type 0 where
   pub wired : Wired pulse
+  pub reached : AllReached pulse
   pub run : Run (bits 1) 5 given stopped 2 Ending.rest
   pub rests : AtRest (bits 1) stopped
   pub kept : Kept (bits 1) stopped 3 (11 ∷ [])

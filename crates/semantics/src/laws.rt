@@ -1,9 +1,10 @@
 // The laws of settled lines in one value system, for all wired circuits, rooms and logs.
 ghost use Rattle.std.specs.Prelude.{◌≡◌, ℕ};
 ghost use Rattle.netlist.specs.Gates.{Circuit};
+ghost use Rattle.netlist.specs.Judging.{AllReached};
 ghost use Rattle.semantics.specs.Circuits.{Wired};
 ghost use Rattle.semantics.specs.Computed.{setup};
-ghost use Rattle.semantics.specs.Laws.{RuleDeterminesValues, KeptChangesFit, GatesRestOrCanBeTaken, RestIsWhereNoGateCanBeTaken, CallsAreDetermined, SettledValuesStay, SettledIsTheDistance, AlikeRestsAgree};
+ghost use Rattle.semantics.specs.Laws.{RuleDeterminesValues, KeptChangesFit, GatesRestOrCanBeTaken, RestIsWhereNoGateCanBeTaken, CallsAreDetermined, RunsHaveOutcomes, RunsComeToRest, SettledValuesStay, SettledIsTheDistance, AlikeRestsAgree};
 ghost use Rattle.values.specs.Knowledge.{three_valued};
 ghost use Rattle.values.specs.Lanes.{lanes};
 ghost use Rattle.values.specs.Systems.{two_valued};
@@ -33,12 +34,20 @@ pub fn rest_is_where_no_gate_can_be_taken<V: ValueSystem>()
     ensures where_meanings_can_be_compared { ((x y : V.Sense) → Dec (x ≡ y)) → (c : Circuit) (room : ℕ) → Wired c → RestIsWhereNoGateCanBeTaken (setup V.system c room) }
 {}
 
-// In each of the three systems they can be compared.
+// The meanings of each of the three systems can be compared.
+pub fn meanings_can_be_compared()
+    ensures in_two_values { (x y : ⟦<Bit as ValueSystem>⟧.Sense) → Dec (x ≡ y) }
+    ensures in_three_values { (x y : ⟦<Ternary as ValueSystem>⟧.Sense) → Dec (x ≡ y) }
+    ensures in_lanes { (x y : ⟦<Lanes as ValueSystem>⟧.Sense) → Dec (x ≡ y) }
+{}
+
+// So in each of them no more is asked for rest to be where no gate can be taken.
 pub fn rest_is_so_in_the_three_systems()
     ensures in_two_values { (c : Circuit) (room : ℕ) → Wired c → RestIsWhereNoGateCanBeTaken (setup two_valued c room) }
     ensures in_three_values { (c : Circuit) (room : ℕ) → Wired c → RestIsWhereNoGateCanBeTaken (setup three_valued c room) }
     ensures in_lanes { (c : Circuit) (room : ℕ) → Wired c → RestIsWhereNoGateCanBeTaken (setup lanes c room) }
 {
+    meanings_can_be_compared();
     rest_is_where_no_gate_can_be_taken::<Bit>();
     rest_is_where_no_gate_can_be_taken::<Ternary>();
     rest_is_where_no_gate_can_be_taken::<Lanes>();
@@ -47,6 +56,16 @@ pub fn rest_is_so_in_the_three_systems()
 // A take, and a run, leads from an account to one account only, and a run has one answer only.
 pub fn calls_are_determined<V: ValueSystem>()
     ensures after_every_log { (c : Circuit) (room : ℕ) → Wired c → CallsAreDetermined (setup V.system c room) }
+{}
+
+// A run of any number of takes has an outcome.
+pub fn runs_have_outcomes<V: ValueSystem>()
+    ensures where_meanings_can_be_compared { ((x y : V.Sense) → Dec (x ≡ y)) → (c : Circuit) (room : ℕ) → Wired c → RunsHaveOutcomes (setup V.system c room) }
+{}
+
+// If every gate is reached by an input, every log can be brought to rest: a run long enough ends there.
+pub fn runs_come_to_rest<V: ValueSystem>()
+    ensures where_meanings_can_be_compared { ((x y : V.Sense) → Dec (x ≡ y)) → (c : Circuit) (room : ℕ) → Wired c → AllReached c → RunsComeToRest (setup V.system c room) }
 {}
 
 // No call makes a line settled less, or alters a value that is settled.

@@ -1,18 +1,18 @@
--- Lists of changes, computed where it can be told whether a line is still.
-use Rattle.std.proofs.Common.{◌≡◌, ℕ, zero, suc, ◌+◌, ◌<◌, ◌≤◌, Bool, false, cond, List, [], ◌∷◌, length, subst, ⊎_elim, arith}
+-- Lists of changes, computed where it can be told whether a line is stable.
+use Rattle.std.proofs.Common.{◌≡◌, ℕ, zero, suc, ◌+◌, ◌<◌, Bool, false, cond, List, [], ◌∷◌, subst, ⊎_elim, arith}
 use Rattle.std.specs.Prelude.{Decides}
 use Rattle.std.proofs.lemmas.Bool.{cases_Bool, both_ways, cases_eq}
-use Rattle.semantics.specs.Changes.{Changes, AtMost, Exactly}
+use Rattle.semantics.specs.Changes.{Changes}
 use Rattle.semantics.specs.Changes.Changes.{none, next}
 
 module _ (quiet : ℕ → Bool) where
-  -- the first so many ticks from one on at which it is not quiet
+  -- of the first so many ticks from one on those at which the test fails
   abbrev pub listed : ℕ → ℕ → List ℕ
   listed zero from = []
   listed (suc k) from = cond (quiet from) (listed k (suc from)) (from ∷ listed k (suc from))
 
 module _ {Stable : ℕ → Type 0} where
-  -- a list that begins one tick earlier, where the line is still
+  -- a list that begins one tick earlier, where the line is stable
   begun : {to : ℕ} {ts : List ℕ} (from : ℕ) → Stable from → Changes Stable to (suc from) ts → Changes Stable to from ts
   begun {to = to} from still (none steady) = none (λ t t_from t_to. ⊎_elim (λ same. subst Stable same still) (λ other. steady t (omega (arith, other)) t_to) (cases_eq from t))
   begun from still (next t_from t_to first changes rest) =
@@ -31,13 +31,3 @@ module _ (Stable : ℕ → Type 0) (quiet : ℕ → Bool) (tells : (t : ℕ) →
   listed_changes (suc k) from =
       let same : suc from + k ≡ from + suc k = omega arith in
       one_earlier (from + suc k) from (listed quiet k (suc from)) (omega arith) (subst (λ to. Changes Stable to (suc from) (listed quiet k (suc from))) same (listed_changes k (suc from)))
-
-  module _ (from count : ℕ) (ts : List ℕ) (is : listed quiet count from ≡ ts) where
-    pub computed : Changes Stable (from + count) from ts
-    computed = subst (Changes Stable (from + count) from) is (listed_changes count from)
-
-    pub at_most : (room : ℕ) → length ts ≤ room → AtMost room Stable from (from + count)
-    at_most room few = record { ticks = ts; changes = computed; few = few }
-
-    pub exactly : (room : ℕ) → length ts ≡ room → Exactly room Stable from (from + count)
-    exactly room count = record { ticks = ts; changes = computed; count = count }

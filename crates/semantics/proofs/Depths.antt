@@ -4,9 +4,9 @@ use Rattle.std.proofs.lemmas.Bool.{cases_Bool, both_ways}
 use Rattle.netlist.specs.Gates.{Circuit}
 use Rattle.netlist.specs.Walks.{Reads, Walk}
 use Rattle.netlist.proofs.Searching.{joined}
-use Rattle.semantics.specs.Nets.{Driver, IsGate, IsInput}
-use Rattle.semantics.specs.Nets.Driver.{undriven, input, gate}
-use Rattle.semantics.specs.Circuits.{lines, driver, net, Wired}
+use Rattle.semantics.specs.Machines.{Driver, IsGate, IsInput}
+use Rattle.semantics.specs.Machines.Driver.{undriven, input, gate}
+use Rattle.semantics.specs.Circuits.{lines, driver, topology, Wired}
 use Rattle.semantics.specs.Computed.{looped}
 use Rattle.semantics.proofs.Looping.{to, to_passes, to_walks}
 use Rattle.semantics.proofs.Sums.{total, total_more}
@@ -49,15 +49,15 @@ module _ (c : Circuit) where
   pub depth : ℕ → ℕ
   depth n = at_driver n (driver c n)
 
-  depth_looped : (n : ℕ) → IsGate (net c) n → looped c n ≡ true → depth n ≡ 0
+  depth_looped : (n : ℕ) → IsGate (topology c) n → looped c n ≡ true → depth n ≡ 0
   unfolding depth at_driver
   depth_looped n a_gate is = ap (at_driver n) a_gate ∙ ap (λ b. cond b 0 (ancestors n)) is
 
-  depth_other : (n : ℕ) → IsGate (net c) n → looped c n ≡ false → depth n ≡ ancestors n
+  depth_other : (n : ℕ) → IsGate (topology c) n → looped c n ≡ false → depth n ≡ ancestors n
   unfolding depth at_driver
   depth_other n a_gate is = ap (at_driver n) a_gate ∙ ap (λ b. cond b 0 (ancestors n)) is
 
-  depth_input : (n : ℕ) → IsInput (net c) n → depth n ≡ 0
+  depth_input : (n : ℕ) → IsInput (topology c) n → depth n ≡ 0
   unfolding depth at_driver
   depth_input n an_input = ap (at_driver n) an_input
 
@@ -83,7 +83,7 @@ module _ (c : Circuit) where
           by_loop false none = few_ancestors n (gate_range c n is).1 none
 
   -- a line read lies less deep
-  pub depth_falls : Wired c → (n m : ℕ) → IsGate (net c) n → looped c n ≡ false → Reads c n m → depth m < depth n
+  pub depth_falls : Wired c → (n m : ℕ) → IsGate (topology c) n → looped c n ≡ false → Reads c n m → depth m < depth n
   unfolding ancestors looped
   depth_falls wired n m a_gate none read = rw (depth_other n a_gate none) (⊎_elim (λ an_input. rw (depth_input m an_input) some) (λ gate'. ⊎_elim (λ loop. rw (depth_looped m gate' loop) some) (λ none'. rw (depth_other m gate' none') (fewer none')) (cases_Bool (looped c m))) (read_line c wired n a_gate m read))
     where

@@ -1,36 +1,36 @@
 -- Settled times and goals.
 use Rattle.std.proofs.Common.{◌≡◌, ℕ, zero, suc, ◌+◌, ◌<◌, ◌≤◌, min, ◌⊎◌, List, [], ◌∷◌, map, length, get_or, refl, ap, sym, ◌∙◌, subst, inl, inr, ⊎_elim, arith, Contains}
 use Rattle.std.specs.Prelude.{fold}
-use Rattle.semantics.specs.Nets.{Driver, Net, IsInput, IsGate, IsLine, ReadsFrom}
-use Rattle.semantics.specs.Nets.Driver.{undriven, input, gate}
+use Rattle.semantics.specs.Machines.{Driver, Topology, IsInput, IsGate, IsLine, ReadsFrom}
+use Rattle.semantics.specs.Machines.Driver.{undriven, input, gate}
 use Rattle.semantics.specs.Accounts.{Account, settled, goal, least}
 use Rattle.semantics.proofs.Locality.{Sound}
 
-module _ {M : Type 0} (net : Net) (a : Account M) (n : ℕ) where
+module _ {M : Type 0} (topology : Topology) (a : Account M) (n : ℕ) where
   by_driver : Driver → ℕ
-  by_driver d = elim d [ undriven ↦ 0 | input ↦ a.end n | gate ↦ a.front n + net.lag n ]
+  by_driver d = elim d [ undriven ↦ 0 | input ↦ a.end n | gate ↦ a.front n + topology.lag n ]
 
-  pub settled_input : IsInput net n → settled net a n ≡ a.end n
+  pub settled_input : IsInput topology n → settled topology a n ≡ a.end n
   unfolding by_driver
   settled_input is = ap by_driver is
 
-  pub settled_gate : IsGate net n → settled net a n ≡ a.front n + net.lag n
+  pub settled_gate : IsGate topology n → settled topology a n ≡ a.front n + topology.lag n
   unfolding by_driver
   settled_gate is = ap by_driver is
 
-  pub settled_undriven : net.driver n ≡ undriven → settled net a n ≡ 0
+  pub settled_undriven : topology.driver n ≡ undriven → settled topology a n ≡ 0
   unfolding by_driver
   settled_undriven is = ap by_driver is
 
 -- no line is driven by both
-pub not_both : (net : Net) (n : ℕ) → IsInput net n → IsGate net n → ⊥
-not_both net n an_input a_gate = cc
+pub not_both : (topology : Topology) (n : ℕ) → IsInput topology n → IsGate topology n → ⊥
+not_both topology n an_input a_gate = cc
 
 -- every number is that of an input, of a gate, or of no line
-pub cases_driver : (net : Net) (n : ℕ) → IsLine net n ⊎ (net.driver n ≡ undriven)
-cases_driver net n = told (net.driver n) refl
+pub cases_driver : (topology : Topology) (n : ℕ) → IsLine topology n ⊎ (topology.driver n ≡ undriven)
+cases_driver topology n = told (topology.driver n) refl
   where
-    told : (d : Driver) → net.driver n ≡ d → IsLine net n ⊎ (net.driver n ≡ undriven)
+    told : (d : Driver) → topology.driver n ≡ d → IsLine topology n ⊎ (topology.driver n ≡ undriven)
     told undriven is = inr is
     told input is = inl (inl is)
     told gate is = inl (inr is)
@@ -76,9 +76,9 @@ module _ (f : ℕ → ℕ) where
       at_place t (j ∷ js) zero m within is = let below = fold_first (min t (f j)) (map f js) in let same = ap f is in omega arith
       at_place t (j ∷ js) (suc k) m within is = at_place (min t (f j)) js k m (omega arith) is
 
-module _ {M : Type 0} (net : Net) (a : Account M) (n : ℕ) where
-  pub goal_each : (m : ℕ) → ReadsFrom net n m → goal net a n ≤ settled net a m
-  goal_each m read = least_each (settled net a) (net.reads n) m read
+module _ {M : Type 0} (topology : Topology) (a : Account M) (n : ℕ) where
+  pub goal_each : (m : ℕ) → ReadsFrom topology n m → goal topology a n ≤ settled topology a m
+  goal_each m read = least_each (settled topology a) (topology.reads n) m read
 
-  pub goal_attained : Sound net → IsGate net n → Attained (settled net a) (net.reads n) (goal net a n)
-  goal_attained sound a_gate = least_attained (settled net a) (net.reads n) (sound.reads_some n a_gate)
+  pub goal_attained : Sound topology → IsGate topology n → Attained (settled topology a) (topology.reads n) (goal topology a n)
+  goal_attained sound a_gate = least_attained (settled topology a) (topology.reads n) (sound.reads_some n a_gate)

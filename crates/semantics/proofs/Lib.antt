@@ -12,6 +12,7 @@ pub mod Looping
 pub mod Outcomes
 pub mod Proved
 pub mod Putting
+pub mod Reachable
 pub mod Reaching
 pub mod Resting
 pub mod Ruling

@@ -80,10 +80,10 @@ module _ {Stable : ℕ → Type 0} where
   earlier {to = to} mid within (next {t = t} t_from t_to first changes rest) =
       ⊎_elim (λ inside. cut_after to mid t_from first changes inside (earlier mid within rest)) (λ beyond. cut_before to mid t_from first changes beyond) (cases_lt t mid)
 
-  module _ {to t : ℕ} {ts : List ℕ} (from mid : ℕ) (t_to : t < to) (first : StableOn Stable from t) (changes : Stable t → ⊥) (rest : Changes Stable to (suc t) ts) where
-    passed : Later Stable to mid ts → Later Stable to mid (t ∷ ts)
-    passed found = record { ticks = found.ticks; changes = found.changes; fewer = omega (arith, found.fewer) }
+  passed : {to t : ℕ} {ts : List ℕ} (mid : ℕ) → Later Stable to mid ts → Later Stable to mid (t ∷ ts)
+  passed mid found = record { ticks = found.ticks; changes = found.changes; fewer = omega (arith, found.fewer) }
 
+  module _ {to t : ℕ} {ts : List ℕ} (from mid : ℕ) (t_to : t < to) (first : StableOn Stable from t) (changes : Stable t → ⊥) (rest : Changes Stable to (suc t) ts) where
     kept_whole : from ≤ mid → mid ≤ t → Later Stable to mid (t ∷ ts)
     kept_whole after stays = record {
       ticks = t ∷ ts;
@@ -94,9 +94,9 @@ module _ {Stable : ℕ → Type 0} where
   pub later : {to from : ℕ} {ts : List ℕ} (mid : ℕ) → from ≤ mid → Changes Stable to from ts → Later Stable to mid ts
   later mid after (none steady) = record { ticks = []; changes = none (λ t t_from t_to. steady t (omega arith) t_to); fewer = omega arith }
   later {from = from} mid after (next {t = t} t_from t_to first changes rest) =
-      ⊎_elim (λ past. passed from mid t_to first changes rest (later mid past rest)) (kept_whole from mid t_to first changes rest after) (cases_lt t mid)
+      ⊎_elim (λ past. passed mid (later mid past rest)) (kept_whole from mid t_to first changes rest after) (cases_lt t mid)
 
--- what is still and what changes is all that counts
+-- two lines that are stable at the same ticks have the same list
 pub alike : {Stable Quiet : ℕ → Type 0} {to from : ℕ} {ts : List ℕ} → ((t : ℕ) → from ≤ t → t < to → Stable t ↔ Quiet t) → Changes Stable to from ts → Changes Quiet to from ts
 alike same (none steady) = none (λ t t_from t_to. (same t t_from t_to).0 (steady t t_from t_to))
 alike {from = from} same (next {t = t} t_from t_to first changes rest) =

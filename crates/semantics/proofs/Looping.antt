@@ -10,6 +10,10 @@ use Rattle.semantics.specs.Circuits.{lines}
 use Rattle.semantics.specs.Computed.{leads, looped}
 use Rattle.semantics.proofs.Wiring.{reads_of}
 
+pub or_right : (x y : Bool) → y ≡ true → (x || y) ≡ true
+or_right true y is = refl
+or_right false y is = is
+
 module _ (c : Circuit) where
   -- a walk on which all lines between the first and the last are below k
   pub data Below (k : ℕ) : ℕ → ℕ → Type 0 where
@@ -40,10 +44,6 @@ module _ (c : Circuit) where
   passes (suc k) m n walk =
       ⊎_elim (λ kept. ap (λ b. b || (leads c k m k && leads c k k n)) (passes k m n kept)) (λ walks. or_right (leads c k m n) _ (and_from _ _ (passes k m k walks.0) (passes k k n walks.1)))
       (parted k walk)
-    where
-      or_right : (x y : Bool) → y ≡ true → (x || y) ≡ true
-      or_right true y is = refl
-      or_right false y is = is
 
   pub only_walks : (k m n : ℕ) → leads c k m n ≡ true → Walk c m n
   unfolding leads
@@ -54,7 +54,7 @@ module _ (c : Circuit) where
       ⊎_elim (only_walks k m n) (λ both. let parts = and_parts (leads c k m k) (leads c k k n) both in joined c m k n (only_walks k m k parts.0) (only_walks k k n parts.1))
       (or_cases (leads c k m n) (leads c k m k && leads c k k n) passed)
 
-  -- a line that reads another is one
+  -- what reads a line is a line of the circuit
   pub read_within : (j m : ℕ) → Reads c j m → j ≤ lines c
   read_within j m read =
       ⊎_elim (λ past. let none : length (reads c j) ≡ 0 = ap length (reads_past c j past) in absurd (omega (arith, read.within))) (λ within. within) (cases_lt (lines c) j)

@@ -1,23 +1,23 @@
 -- A take can lead to one front only, and a run to one account and one answer.
 use Rattle.std.proofs.Common.{◌≡◌, ℕ, ◌+◌, ◌<◌, ◌≤◌, ◌⊎◌, refl, ap, sym, ◌∙◌, subst, ⊎_elim, arith}
 use Rattle.std.proofs.lemmas.Bool.{cases_order}
-use Rattle.semantics.specs.Nets.{Setup}
+use Rattle.semantics.specs.Machines.{Machine}
 use Rattle.semantics.specs.Accounts.{Account, goal, Overflows}
 use Rattle.semantics.specs.Moves.{taken, CanTake, Takeable, ComesFirst, Rest}
 use Rattle.semantics.specs.Logs.{Ending, Takes, Run}
 use Rattle.semantics.proofs.Listing.{no_room}
 use Rattle.semantics.proofs.Resting.{resting}
 
-module _ {M : Type 0} (s : Setup M) where
+module _ {M : Type 0} (s : Machine M) where
   -- no take stops before another take of the gate
   no_sooner : (a : Account M) (n front other : ℕ) → CanTake s a n front → CanTake s a n other → front < other → ⊥
   no_sooner a n front other one two before = ⊎_elim at_goal at_stop one.stops
     where
-      at_goal : front ≡ goal s.net a n → ⊥
+      at_goal : front ≡ goal s.topology a n → ⊥
       at_goal is = omega (arith, two.not_beyond)
 
-      at_stop : Overflows s a n (front + s.net.lag n) → ⊥
-      at_stop over = no_room (front + s.net.lag n) over.from_trim over.changes over.room_is_full (omega arith) two.fits
+      at_stop : Overflows s a n (front + s.topology.lag n) → ⊥
+      at_stop over = no_room (front + s.topology.lag n) over.from_trim over.changes over.room_is_full (omega arith) two.fits
 
   pub one_front : (a : Account M) (n front other : ℕ) → CanTake s a n front → CanTake s a n other → front ≡ other
   one_front a n front other one two =

@@ -1,4 +1,4 @@
--- The functions that compute initial values and values obey the rule, and so does nothing else: what obeys the rule in two
+-- The functions that compute initial values and values obey the rule, and nothing else does: what obeys the rule in two
 -- systems is tied by every kept relation.
 use Rattle.std.proofs.Common.{◌≡◌, ℕ, zero, suc, ◌+◌, ◌-◌, ◌<◌, ◌≤◌, Bool, true, false, ltb, List, [], ◌∷◌, map, refl, ap, sym, ◌∙◌, subst, inl, inr, ⊎_elim, arith, Contains}
 use Rattle.std.specs.List.{AllZip}
@@ -9,10 +9,11 @@ use Rattle.values.specs.Systems.{System}
 use Rattle.values.specs.Relations.{Kept}
 use Rattle.gates.specs.Functions.{gate_function}
 use Rattle.gates.proofs.Ties.{gates_tied}
-use Rattle.semantics.specs.Nets.{Driver, IsInput, IsGate, IsLine}
-use Rattle.semantics.specs.Nets.Driver.{undriven, input, gate}
-use Rattle.semantics.specs.Circuits.{lines, gate_of_line, net, Wired}
-use Rattle.semantics.specs.Computed.{looped, begin, begin_to, initial, follow, follow_to, value, rule}
+use Rattle.semantics.specs.Machines.{Driver, IsInput, IsGate, IsLine}
+use Rattle.semantics.specs.Machines.Driver.{undriven, input, gate}
+use Rattle.semantics.specs.Circuits.{lines, gate_of_line, topology, Wired}
+use Rattle.semantics.specs.Computed.{looped, begin, begin_to, initial, follow, follow_to, value}
+use Rattle.semantics.specs.CircuitMachine.{rule}
 use Rattle.semantics.specs.Rules.{Begins, Obeys}
 use Rattle.semantics.proofs.Depths.{depth, depth_bound, depth_falls}
 use Rattle.semantics.proofs.Locality.{Horizon, Carries, Local}
@@ -38,28 +39,28 @@ equality_kept s = record {
 gates_equal : {M : Type 0} (s : System M) (kind : _) (f g : ℕ → M) (ms : List ℕ) → ((m : ℕ) → Contains ms m → f m ≡ g m) → gate_function s kind (map f ms) ≡ gate_function s kind (map g ms)
 gates_equal s kind f g ms same = gates_tied s s ◌≡◌ (equality_kept s) kind (map f ms) (map g ms) (all_tied ◌≡◌ f g ms same)
 
-module _ {M : Type 0} (s : System M) (c : Circuit) (wired : Wired c) (start : ℕ → M) where
-  -- each of the lines that a gate reads is one
-  read_line : (n m : ℕ) → IsGate (net c) n → Contains (reads c n) m → IsLine (net c) m
-  read_line n m a_gate read = (sound c wired).reads_lines n m a_gate read
+-- what a gate reads is a line of the circuit
+read_line : (c : Circuit) → Wired c → (n m : ℕ) → IsGate (topology c) n → Contains (reads c n) m → IsLine (topology c) m
+read_line c wired n m a_gate read = (sound c wired).reads_lines n m a_gate read
 
+module _ {M : Type 0} (s : System M) (c : Circuit) (wired : Wired c) (start : ℕ → M) where
   begin_driver : (ℕ → M) → ℕ → Driver → Bool → M
   begin_driver known n d loop = elim d [ undriven ↦ s.start | input ↦ start n | gate ↦ elim loop [ true ↦ s.start | false ↦ gate_function s (gate_of_line c n).kind (map known (reads c n)) ] ]
 
-  begin_input : (known : ℕ → M) (n : ℕ) → IsInput (net c) n → begin s c start known n ≡ start n
+  begin_input : (known : ℕ → M) (n : ℕ) → IsInput (topology c) n → begin s c start known n ≡ start n
   unfolding begin_driver
   begin_input known n is = ap (λ d. begin_driver known n d (looped c n)) is
 
-  begin_looped : (known : ℕ → M) (n : ℕ) → IsGate (net c) n → looped c n ≡ true → begin s c start known n ≡ s.start
+  begin_looped : (known : ℕ → M) (n : ℕ) → IsGate (topology c) n → looped c n ≡ true → begin s c start known n ≡ s.start
   unfolding begin_driver
   begin_looped known n is loop = ap (λ d. begin_driver known n d (looped c n)) is ∙ ap (begin_driver known n gate) loop
 
-  begin_other : (known : ℕ → M) (n : ℕ) → IsGate (net c) n → looped c n ≡ false → begin s c start known n ≡ gate_function s (gate_of_line c n).kind (map known (reads c n))
+  begin_other : (known : ℕ → M) (n : ℕ) → IsGate (topology c) n → looped c n ≡ false → begin s c start known n ≡ gate_function s (gate_of_line c n).kind (map known (reads c n))
   unfolding begin_driver
   begin_other known n is none = ap (λ d. begin_driver known n d (looped c n)) is ∙ ap (begin_driver known n gate) none
 
   -- deep enough, one depth more makes no difference
-  stable : (far n : ℕ) → IsLine (net c) n → depth c n < far → begin_to s c start far n ≡ begin_to s c start (suc far) n
+  stable : (far n : ℕ) → IsLine (topology c) n → depth c n < far → begin_to s c start far n ≡ begin_to s c start (suc far) n
   unfolding begin_to
   stable zero n line within = absurd (omega arith)
   stable (suc far) n line within =
@@ -67,11 +68,11 @@ module _ {M : Type 0} (s : System M) (c : Circuit) (wired : Wired c) (start : �
       (λ a_gate. ⊎_elim (λ loop. begin_looped (begin_to s c start far) n a_gate loop ∙ sym (begin_looped (begin_to s c start (suc far)) n a_gate loop))
       (λ none.
       begin_other (begin_to s c start far) n a_gate none ∙ (gates_equal s (gate_of_line c n).kind (begin_to s c start far) (begin_to s c start (suc far)) (reads c n)
-      (λ m read. stable far m (read_line n m a_gate read) (let falls = depth_falls c wired n m a_gate none (reads_of c n m read) in omega arith)) ∙ sym (begin_other (begin_to s c start (suc far)) n a_gate none)))
+      (λ m read. stable far m (read_line c wired n m a_gate read) (let falls = depth_falls c wired n m a_gate none (reads_of c n m read) in omega arith)) ∙ sym (begin_other (begin_to s c start (suc far)) n a_gate none)))
       (cases_Bool (looped c n)))
       line
 
-  initial_begun : (n : ℕ) → IsLine (net c) n → initial s c start n ≡ begin s c start (initial s c start) n
+  initial_begun : (n : ℕ) → IsLine (topology c) n → initial s c start n ≡ begin s c start (initial s c start) n
   unfolding initial begin_to
   initial_begun n line = stable (suc (lines c)) n line (let b = depth_bound c n in omega arith)
 
@@ -87,39 +88,39 @@ module _ {M : Type 0} (s : System M) (c : Circuit) (wired : Wired c) (start : �
     follow_driver known n t d early =
         elim d [ undriven ↦ s.start | input ↦ waveform n t | gate ↦ elim early [ true ↦ initial s c start n | false ↦ gate_function s (gate_of_line c n).kind (map (λ m. known m (t - (gate_of_line c n).delay)) (reads c n)) ] ]
 
-    follow_input : (known : ℕ → ℕ → M) (n t : ℕ) → IsInput (net c) n → follow s c start waveform known n t ≡ waveform n t
+    follow_input : (known : ℕ → ℕ → M) (n t : ℕ) → IsInput (topology c) n → follow s c start waveform known n t ≡ waveform n t
     unfolding follow_driver
     follow_input known n t is = ap (λ d. follow_driver known n t d (ltb t (gate_of_line c n).delay)) is
 
-    follow_early : (known : ℕ → ℕ → M) (n t : ℕ) → IsGate (net c) n → t < (gate_of_line c n).delay → follow s c start waveform known n t ≡ initial s c start n
+    follow_early : (known : ℕ → ℕ → M) (n t : ℕ) → IsGate (topology c) n → t < (gate_of_line c n).delay → follow s c start waveform known n t ≡ initial s c start n
     unfolding follow_driver
     follow_early known n t is early = ap (λ d. follow_driver known n t d (ltb t (gate_of_line c n).delay)) is ∙ ap (follow_driver known n t gate) (lt-ltb t (gate_of_line c n).delay early)
 
-    follow_later : (known : ℕ → ℕ → M) (n t : ℕ) → IsGate (net c) n → (gate_of_line c n).delay ≤ t → follow s c start waveform known n t ≡ gate_function s (gate_of_line c n).kind (map (λ m. known m (t - (gate_of_line c n).delay)) (reads c n))
+    follow_later : (known : ℕ → ℕ → M) (n t : ℕ) → IsGate (topology c) n → (gate_of_line c n).delay ≤ t → follow s c start waveform known n t ≡ gate_function s (gate_of_line c n).kind (map (λ m. known m (t - (gate_of_line c n).delay)) (reads c n))
     unfolding follow_driver
     follow_later known n t is later = ap (λ d. follow_driver known n t d (ltb t (gate_of_line c n).delay)) is ∙ ap (follow_driver known n t gate) (le-ltb t (gate_of_line c n).delay later)
 
     -- a value hangs on those at earlier ticks
-    follow_alike : (known other : ℕ → ℕ → M) (n t : ℕ) → IsLine (net c) n → ((m u : ℕ) → IsLine (net c) m → u < t → known m u ≡ other m u) → follow s c start waveform known n t ≡ follow s c start waveform other n t
+    follow_alike : (known other : ℕ → ℕ → M) (n t : ℕ) → IsLine (topology c) n → ((m u : ℕ) → IsLine (topology c) m → u < t → known m u ≡ other m u) → follow s c start waveform known n t ≡ follow s c start waveform other n t
     follow_alike known other n t line same =
         ⊎_elim (λ an_input. follow_input known n t an_input ∙ sym (follow_input other n t an_input))
         (λ a_gate. ⊎_elim (λ early. follow_early known n t a_gate early ∙ sym (follow_early other n t a_gate early))
         (λ late.
         let time = gate_time c wired n a_gate in
         let u : ℕ = t - (gate_of_line c n).delay in
-        follow_later known n t a_gate late ∙ (gates_equal s (gate_of_line c n).kind (λ m. known m u) (λ m. other m u) (reads c n) (λ m read. same m u (read_line n m a_gate read) (omega arith)) ∙ sym (follow_later other n t a_gate late)))
+        follow_later known n t a_gate late ∙ (gates_equal s (gate_of_line c n).kind (λ m. known m u) (λ m. other m u) (reads c n) (λ m read. same m u (read_line c wired n m a_gate read) (omega arith)) ∙ sym (follow_later other n t a_gate late)))
         (cases_lt t (gate_of_line c n).delay))
         line
 
     -- beyond the tick, how deep makes no difference
-    deep_enough : (far other n t : ℕ) → IsLine (net c) n → t < far → t < other → follow_to s c start waveform far n t ≡ follow_to s c start waveform other n t
+    deep_enough : (far other n t : ℕ) → IsLine (topology c) n → t < far → t < other → follow_to s c start waveform far n t ≡ follow_to s c start waveform other n t
     unfolding follow_to
     deep_enough zero other n t line within within' = absurd (omega arith)
     deep_enough (suc far) zero n t line within within' = absurd (omega arith)
     deep_enough (suc far) (suc other) n t line within within' =
         follow_alike (follow_to s c start waveform far) (follow_to s c start waveform other) n t line (λ m u line' earlier. deep_enough far other m u line' (omega arith) (omega arith))
 
-    value_followed : (n t : ℕ) → IsLine (net c) n → value s c start waveform n t ≡ follow s c start waveform (value s c start waveform) n t
+    value_followed : (n t : ℕ) → IsLine (topology c) n → value s c start waveform n t ≡ follow s c start waveform (value s c start waveform) n t
     unfolding value follow_to
     value_followed n t line = follow_alike (follow_to s c start waveform t) (value s c start waveform) n t line (λ m u line' earlier. deep_enough t (suc u) m u line' earlier (omega arith))
 
@@ -134,9 +135,6 @@ module _ {M : Type 0} (s : System M) (c : Circuit) (wired : Wired c) (start : �
     }
 
 module _ {M N : Type 0} (s : System M) (q : System N) (c : Circuit) (wired : Wired c) (R : M → N → Type 0) (kept : Kept s q R) where
-  reads_line : (n m : ℕ) → IsGate (net c) n → Contains (reads c n) m → IsLine (net c) m
-  reads_line n m a_gate read = (sound c wired).reads_lines n m a_gate read
-
   -- a gate shows tied values of tied values
   shows_tied : (n : ℕ) (f : ℕ → M) (g : ℕ → N) → ((m : ℕ) → Contains (reads c n) m → R (f m) (g m)) → R (gate_function s (gate_of_line c n).kind (map f (reads c n))) (gate_function q (gate_of_line c n).kind (map g (reads c n)))
   shows_tied n f g ties = gates_tied s q R kept (gate_of_line c n).kind (map f (reads c n)) (map g (reads c n)) (all_tied R f g (reads c n) ties)
@@ -144,8 +142,8 @@ module _ {M N : Type 0} (s : System M) (q : System N) (c : Circuit) (wired : Wir
   across : {x x' : M} {y y' : N} → x ≡ x' → y ≡ y' → R x' y' → R x y
   across {x' = x'} {y = y} one other tied = subst (λ z. R z y) (sym one) (subst (λ z. R x' z) (sym other) tied)
 
-  module _ (start init : ℕ → M) (begin init' : ℕ → N) (left : Begins s c start init) (right : Begins q c begin init') (starts : (n : ℕ) → IsInput (net c) n → R (start n) (begin n)) where
-    begun_tied : (far n : ℕ) → IsLine (net c) n → depth c n < far → R (init n) (init' n)
+  module _ (start init : ℕ → M) (begin init' : ℕ → N) (left : Begins s c start init) (right : Begins q c begin init') (starts : (n : ℕ) → IsInput (topology c) n → R (start n) (begin n)) where
+    begun_tied : (far n : ℕ) → IsLine (topology c) n → depth c n < far → R (init n) (init' n)
     begun_tied zero n line within = absurd (omega arith)
     begun_tied (suc far) n line within =
         ⊎_elim (λ an_input. across (left.at_inputs n an_input) (right.at_inputs n an_input) (starts n an_input))
@@ -153,15 +151,15 @@ module _ {M N : Type 0} (s : System M) (q : System N) (c : Circuit) (wired : Wir
         (λ none.
         let free = not_looped c n none in
         across (left.at_others n a_gate free) (right.at_others n a_gate free)
-        (shows_tied n init init' (λ m read. begun_tied far m (reads_line n m a_gate read) (let falls = depth_falls c wired n m a_gate none (reads_of c n m read) in omega arith))))
+        (shows_tied n init init' (λ m read. begun_tied far m (read_line c wired n m a_gate read) (let falls = depth_falls c wired n m a_gate none (reads_of c n m read) in omega arith))))
         (cases_Bool (looped c n)))
         line
 
-    pub initials_tied : (n : ℕ) → IsLine (net c) n → R (init n) (init' n)
+    pub initials_tied : (n : ℕ) → IsLine (topology c) n → R (init n) (init' n)
     initials_tied n line = begun_tied (suc (depth c n)) n line (omega arith)
 
-    module _ (waveform v : ℕ → ℕ → M) (other_waveform w : ℕ → ℕ → N) (one : Obeys s c init waveform v) (other : Obeys q c init' other_waveform w) (Within : ℕ → ℕ → Type 0) (horizon : Horizon (net c) Within) (waveforms : (n t : ℕ) → IsInput (net c) n → Within n t → R (waveform n t) (other_waveform n t)) where
-      obeyed_tied : (far n t : ℕ) → IsLine (net c) n → t < far → Within n t → R (v n t) (w n t)
+    module _ (waveform v : ℕ → ℕ → M) (other_waveform w : ℕ → ℕ → N) (one : Obeys s c init waveform v) (other : Obeys q c init' other_waveform w) (Within : ℕ → ℕ → Type 0) (horizon : Horizon (topology c) Within) (waveforms : (n t : ℕ) → IsInput (topology c) n → Within n t → R (waveform n t) (other_waveform n t)) where
+      obeyed_tied : (far n t : ℕ) → IsLine (topology c) n → t < far → Within n t → R (v n t) (w n t)
       obeyed_tied zero n t line before within = absurd (omega arith)
       obeyed_tied (suc far) n t line before within =
           ⊎_elim (λ an_input. across (one.at_inputs n t an_input) (other.at_inputs n t an_input) (waveforms n t an_input within))
@@ -172,14 +170,14 @@ module _ {M N : Type 0} (s : System M) (q : System N) (c : Circuit) (wired : Wir
           let same : u + (gate_of_line c n).delay ≡ t = omega arith in
           subst (λ x. R (v n x) (w n x)) same
           (across (one.one_delay_later n u a_gate) (other.one_delay_later n u a_gate)
-          (shows_tied n (λ m. v m u) (λ m. w m u) (λ m read. obeyed_tied far m u (reads_line n m a_gate read) (omega arith) (horizon.back n m u a_gate read (subst (Within n) (sym same) within))))))
+          (shows_tied n (λ m. v m u) (λ m. w m u) (λ m read. obeyed_tied far m u (read_line c wired n m a_gate read) (omega arith) (horizon.back n m u a_gate read (subst (Within n) (sym same) within))))))
           (cases_lt t (gate_of_line c n).delay))
           line
 
-      pub values_tied : (n t : ℕ) → IsLine (net c) n → Within n t → R (v n t) (w n t)
+      pub values_tied : (n t : ℕ) → IsLine (topology c) n → Within n t → R (v n t) (w n t)
       values_tied n t line within = obeyed_tied (suc t) n t line (omega arith) within
 
-  pub rule_carries : Carries (net c) (rule s c) (rule q c) R
+  pub rule_carries : Carries (topology c) (rule s c) (rule q c) R
   rule_carries = record {
     initial = λ start begin starts. initials_tied start (initial s c start) begin (initial q c begin) (begins s c wired start) (begins q c wired begin) starts;
     value = λ start begin waveform other_waveform starts Within horizon waveforms.
@@ -187,7 +185,7 @@ module _ {M N : Type 0} (s : System M) (q : System N) (c : Circuit) (wired : Wir
         (obeys q c wired begin other_waveform) Within horizon waveforms;
   }
 
-pub rule_local : {M : Type 0} (s : System M) (c : Circuit) → Wired c → Local (net c) (rule s c)
+pub rule_local : {M : Type 0} (s : System M) (c : Circuit) → Wired c → Local (topology c) (rule s c)
 rule_local s c wired = record {
   input_begins = λ start n an_input. (begins s c wired start).at_inputs n an_input;
   input_given = λ start waveform n t an_input. (obeys s c wired start waveform).at_inputs n t an_input;
@@ -197,11 +195,11 @@ rule_local s c wired = record {
 
 module _ {M : Type 0} (s : System M) (c : Circuit) (wired : Wired c) (start init : ℕ → M) (from : Begins s c start init) where
   -- nothing else begins so
-  pub only_initials : (n : ℕ) → IsLine (net c) n → init n ≡ initial s c start n
+  pub only_initials : (n : ℕ) → IsLine (topology c) n → init n ≡ initial s c start n
   only_initials n line = initials_tied s s c wired ◌≡◌ (equality_kept s) start init start (initial s c start) from (begins s c wired start) (λ m an_input. refl) n line
 
   -- nothing else obeys so
-  pub only_values : (waveform v : ℕ → ℕ → M) → Obeys s c init waveform v → (n t : ℕ) → IsLine (net c) n → v n t ≡ value s c start waveform n t
+  pub only_values : (waveform v : ℕ → ℕ → M) → Obeys s c init waveform v → (n t : ℕ) → IsLine (topology c) n → v n t ≡ value s c start waveform n t
   only_values waveform v obeyed n t line =
       values_tied s s c wired ◌≡◌ (equality_kept s) start init start (initial s c start) from (begins s c wired start) (λ m an_input. refl) waveform v waveform (value s c start waveform) obeyed (obeys s c wired start waveform) (λ m u. Unit {0})
       (record { down = λ m u within. tt; back = λ m j u a_gate read within. tt }) (λ m u an_input within. refl) n t line tt

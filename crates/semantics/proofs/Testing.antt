@@ -4,12 +4,12 @@ use Rattle.std.specs.Prelude.{Decides}
 use Rattle.std.proofs.lemmas.Bool.{and_parts, or_cases, eqb-true, ltb-true, leb-true, not-true, cases_eq}
 use Rattle.netlist.specs.Gates.{Circuit}
 use Rattle.values.specs.Systems.{System}
-use Rattle.semantics.specs.Nets.{Driver, IsInput, IsGate, Setup}
-use Rattle.semantics.specs.Nets.Driver.{undriven, input, gate}
+use Rattle.semantics.specs.Machines.{Driver, IsInput, IsGate, Machine}
+use Rattle.semantics.specs.Machines.Driver.{undriven, input, gate}
 use Rattle.semantics.specs.Accounts.{Account, goal, value, before, Stable, Overflows}
 use Rattle.semantics.specs.Changes.{Changes, AtMost}
-use Rattle.semantics.specs.Circuits.{driver, lines, net}
-use Rattle.semantics.specs.Computed.{setup}
+use Rattle.semantics.specs.Circuits.{driver, lines, topology}
+use Rattle.semantics.specs.CircuitMachine.{machine}
 use Rattle.semantics.specs.Moves.{made, fed, held, taken, trimmed, CanFeed, CanHold, CanTake, CanTrim, Takeable, ComesFirst, Rests, Rest}
 use Rattle.semantics.specs.Logs.{Ending, Takes, Run, Step, Steps, Log}
 use Rattle.semantics.specs.Worked.{taken_each}
@@ -36,7 +36,7 @@ module _ (c : Circuit) where
   abbrev pub is_gate : ℕ → Bool
   is_gate n = elim (driver c n) [ undriven ↦ false | input ↦ false | gate ↦ true ]
 
-  when_input : (n : ℕ) → is_input n ≡ true → IsInput (net c) n
+  when_input : (n : ℕ) → is_input n ≡ true → IsInput (topology c) n
   when_input n = at_driver (driver c n)
     where
       at_driver : (d : Driver) → (elim d [ undriven ↦ false | input ↦ true | gate ↦ false ]) ≡ true → d ≡ input
@@ -44,7 +44,7 @@ module _ (c : Circuit) where
       at_driver input is = refl
       at_driver gate is = cc
 
-  when_gate : (n : ℕ) → is_gate n ≡ true → IsGate (net c) n
+  when_gate : (n : ℕ) → is_gate n ≡ true → IsGate (topology c) n
   when_gate n = at_driver (driver c n)
     where
       at_driver : (d : Driver) → (elim d [ undriven ↦ false | input ↦ false | gate ↦ true ]) ≡ true → d ≡ gate
@@ -60,15 +60,15 @@ module _ (c : Circuit) where
   abbrev pub each : (ℕ → Bool) → (ℕ → Bool) → Bool
   each p q = up_to (λ n. on_driver (p n) (q n) (driver c n)) (lines c)
 
-  each_input : (p q : ℕ → Bool) → each p q ≡ true → (n : ℕ) → IsInput (net c) n → p n ≡ true
+  each_input : (p q : ℕ → Bool) → each p q ≡ true → (n : ℕ) → IsInput (topology c) n → p n ≡ true
   each_input p q passed n an_input = ap (on_driver (p n) (q n)) (sym an_input) ∙ up_to_each (λ n. on_driver (p n) (q n) (driver c n)) (lines c) n passed (line_range c n (inl an_input))
 
-  each_gate : (p q : ℕ → Bool) → each p q ≡ true → (n : ℕ) → IsGate (net c) n → q n ≡ true
+  each_gate : (p q : ℕ → Bool) → each p q ≡ true → (n : ℕ) → IsGate (topology c) n → q n ≡ true
   each_gate p q passed n a_gate = ap (on_driver (p n) (q n)) (sym a_gate) ∙ up_to_each (λ n. on_driver (p n) (q n) (driver c n)) (lines c) n passed (line_range c n (inr a_gate))
 
 module _ {M : Type 0} (e : Equality M) (s : System M) (c : Circuit) (room : ℕ) where
-  abbrev S : Setup M
-  S = setup s c room
+  abbrev S : Machine M
+  S = machine s c room
 
   module _ (a : Account M) where
     abbrev pub quiet : ℕ → ℕ → Bool
@@ -121,35 +121,35 @@ module _ {M : Type 0} (e : Equality M) (s : System M) (c : Circuit) (room : ℕ)
         record { an_input = when_input c n firsts.0; not_past = leb-true (a.end n) t firsts.1; in_time = leb-true t 2000000000 parts.1 }
 
     abbrev pub stop_test : ℕ → ℕ → Bool
-    stop_test n front = eqb front (goal (net c) a n) || overflow_test n (front + (net c).lag n)
+    stop_test n front = eqb front (goal (topology c) a n) || overflow_test n (front + (topology c).lag n)
 
     abbrev pub take_test : ℕ → ℕ → Bool
-    take_test n front = is_gate c n && ltb (a.front n) front && leb front (goal (net c) a n) && fits_test n (front + (net c).lag n) && stop_test n front
+    take_test n front = is_gate c n && ltb (a.front n) front && leb front (goal (topology c) a n) && fits_test n (front + (topology c).lag n) && stop_test n front
 
     pub can_take : (n front : ℕ) → take_test n front ≡ true → CanTake S a n front
     can_take n front passed =
-        let to : ℕ = front + (net c).lag n in
-        let four = and_parts (is_gate c n && ltb (a.front n) front && leb front (goal (net c) a n) && fits_test n to) (stop_test n front) passed in
-        let three = and_parts (is_gate c n && ltb (a.front n) front && leb front (goal (net c) a n)) (fits_test n to) four.0 in
-        let two = and_parts (is_gate c n && ltb (a.front n) front) (leb front (goal (net c) a n)) three.0 in
+        let to : ℕ = front + (topology c).lag n in
+        let four = and_parts (is_gate c n && ltb (a.front n) front && leb front (goal (topology c) a n) && fits_test n to) (stop_test n front) passed in
+        let three = and_parts (is_gate c n && ltb (a.front n) front && leb front (goal (topology c) a n)) (fits_test n to) four.0 in
+        let two = and_parts (is_gate c n && ltb (a.front n) front) (leb front (goal (topology c) a n)) three.0 in
         let one = and_parts (is_gate c n) (ltb (a.front n) front) two.0 in
         record {
           a_gate = when_gate c n one.0;
           onward = ltb-true (a.front n) front one.1;
-          not_beyond = leb-true front (goal (net c) a n) two.1;
+          not_beyond = leb-true front (goal (topology c) a n) two.1;
           fits = fits n to three.1;
-          stops = ⊎_elim (λ at_goal. inl (eqb-true front (goal (net c) a n) at_goal)) (λ over. inr (overflows n to over)) (or_cases (eqb front (goal (net c) a n)) (overflow_test n to) four.1);
+          stops = ⊎_elim (λ at_goal. inl (eqb-true front (goal (topology c) a n) at_goal)) (λ over. inr (overflows n to over)) (or_cases (eqb front (goal (topology c) a n)) (overflow_test n to) four.1);
         }
 
     abbrev pub rests_test : ℕ → Bool
-    rests_test n = eqb (a.front n) (goal (net c) a n) || (ltb (a.front n) (goal (net c) a n) && overflow_test n (a.front n + (net c).lag n))
+    rests_test n = eqb (a.front n) (goal (topology c) a n) || (ltb (a.front n) (goal (topology c) a n) && overflow_test n (a.front n + (topology c).lag n))
 
     rests : (n : ℕ) → rests_test n ≡ true → Rests S a n
     rests n passed =
-        let to : ℕ = a.front n + (net c).lag n in
-        ⊎_elim (λ at_goal. Rests.idle (eqb-true (a.front n) (goal (net c) a n) at_goal))
-        (λ over. let parts = and_parts (ltb (a.front n) (goal (net c) a n)) (overflow_test n to) over in Rests.full (ltb-true (a.front n) (goal (net c) a n) parts.0) (overflows n to parts.1))
-        (or_cases (eqb (a.front n) (goal (net c) a n)) (ltb (a.front n) (goal (net c) a n) && overflow_test n to) passed)
+        let to : ℕ = a.front n + (topology c).lag n in
+        ⊎_elim (λ at_goal. Rests.idle (eqb-true (a.front n) (goal (topology c) a n) at_goal))
+        (λ over. let parts = and_parts (ltb (a.front n) (goal (topology c) a n)) (overflow_test n to) over in Rests.full (ltb-true (a.front n) (goal (topology c) a n) parts.0) (overflows n to parts.1))
+        (or_cases (eqb (a.front n) (goal (topology c) a n)) (ltb (a.front n) (goal (topology c) a n) && overflow_test n to) passed)
 
     abbrev pub rest_test : Bool
     rest_test = each c (λ n. true) rests_test

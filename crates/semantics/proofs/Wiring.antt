@@ -1,4 +1,4 @@
--- The net of a wired circuit is sound.
+-- The topology of a wired circuit is sound.
 use Rattle.std.proofs.Common.{◌≡◌, ℕ, zero, suc, ◌-◌, ◌<◌, ◌≤◌, Bool, true, false, cond, ltb, ◌&&◌, [], ◌∷◌, length, get_or, refl, ap, sym, ◌∙◌, subst, inl, inr, ⊎_elim, arith}
 use Rattle.std.proofs.lemmas.Bool.{ltb-true, ltb-false, lt-ltb, le-ltb, and_parts, cases_lt}
 use Rattle.std.proofs.lemmas.List.Sums.{AllPass-from_list_all}
@@ -8,9 +8,9 @@ use Rattle.netlist.specs.Gates.{Circuit, legal, fits, delay_fits, on_lines}
 use Rattle.netlist.specs.Walks.{no_gate, reads, Reads}
 use Rattle.netlist.proofs.Ranges.{bounds}
 use Rattle.netlist.proofs.Reading.{reads_at_gate, read_bounds}
-use Rattle.semantics.specs.Nets.{IsInput, IsGate, IsLine, ReadsFrom}
-use Rattle.semantics.specs.Nets.Driver.{undriven, input, gate}
-use Rattle.semantics.specs.Circuits.{lines, gate_of_line, net, Wired}
+use Rattle.semantics.specs.Machines.{IsInput, IsGate, IsLine, ReadsFrom}
+use Rattle.semantics.specs.Machines.Driver.{undriven, input, gate}
+use Rattle.semantics.specs.Circuits.{lines, gate_of_line, topology, Wired}
 use Rattle.semantics.proofs.Locality.{Sound}
 
 when_gate : (x y : Bool) → cond x input (cond y gate undriven) ≡ gate → (x ≡ false) × (y ≡ true)
@@ -23,7 +23,7 @@ when_input true y is = refl
 when_input false true is = cc
 when_input false false is = cc
 
-pub gate_range : (c : Circuit) (n : ℕ) → IsGate (net c) n → (c.inputs < n) × (n ≤ lines c)
+pub gate_range : (c : Circuit) (n : ℕ) → IsGate (topology c) n → (c.inputs < n) × (n ≤ lines c)
 gate_range c zero is = cc
 gate_range c (suc k) is =
     let tests = when_gate (ltb k c.inputs) (ltb k (lines c)) is in
@@ -31,24 +31,24 @@ gate_range c (suc k) is =
     let within = ltb-true k (lines c) tests.1 in
     (omega arith, omega arith)
 
-pub gate_below : (c : Circuit) (n : ℕ) → IsGate (net c) n → n < suc (lines c)
+pub gate_below : (c : Circuit) (n : ℕ) → IsGate (topology c) n → n < suc (lines c)
 gate_below c n is = let range = gate_range c n is in omega (arith, range.1)
 
-pub input_range : (c : Circuit) (n : ℕ) → IsInput (net c) n → (1 ≤ n) × (n ≤ c.inputs)
+pub input_range : (c : Circuit) (n : ℕ) → IsInput (topology c) n → (1 ≤ n) × (n ≤ c.inputs)
 input_range c zero is = cc
 input_range c (suc k) is = let within = ltb-true k c.inputs (when_input (ltb k c.inputs) (ltb k (lines c)) is) in (omega arith, omega arith)
 
 -- all numbers from 1 to that of lines are lines
-pub a_line : (c : Circuit) (n : ℕ) → 1 ≤ n → n ≤ lines c → IsLine (net c) n
+pub a_line : (c : Circuit) (n : ℕ) → 1 ≤ n → n ≤ lines c → IsLine (topology c) n
 a_line c zero low high = absurd (omega arith)
 a_line c (suc k) low high = ⊎_elim (λ below. inl (ap (λ b. cond b input (cond (ltb k (lines c)) gate undriven)) (lt-ltb k c.inputs below)))
     (λ past. inr (ap (λ b. cond b input (cond (ltb k (lines c)) gate undriven)) (le-ltb k c.inputs past) ∙ ap (λ b. cond b gate undriven) (lt-ltb k (lines c) (omega arith))))
     (cases_lt k c.inputs)
 
-pub line_range : (c : Circuit) (n : ℕ) → IsLine (net c) n → n ≤ lines c
+pub line_range : (c : Circuit) (n : ℕ) → IsLine (topology c) n → n ≤ lines c
 line_range c n line = ⊎_elim (λ an_input. let r = input_range c n an_input in omega (arith, r.1)) (λ a_gate. (gate_range c n a_gate).1) line
 
-pub reads_of : (c : Circuit) (n m : ℕ) → ReadsFrom (net c) n m → Reads c n m
+pub reads_of : (c : Circuit) (n m : ℕ) → ReadsFrom (topology c) n m → Reads c n m
 reads_of c n m read = record { place = read.0; within = read.1; is = read_at (reads c n) read.0 m read.1 read.2 }
   where
     read_at : (ms : _) (k m : ℕ) → k < length ms → get_or ms k m ≡ m → get_or ms k 0 ≡ m
@@ -71,7 +71,7 @@ some_fit : (kind : Kind) (k : ℕ) → fits kind k ≡ true → 0 < k
 some_fit kind zero is = absurd (none_fit kind is)
 some_fit kind (suc k) is = omega arith
 
-module _ (c : Circuit) (wired : Wired c) (n : ℕ) (a_gate : IsGate (net c) n) where
+module _ (c : Circuit) (wired : Wired c) (n : ℕ) (a_gate : IsGate (topology c) n) where
   its_gate : legal (lines c) (gate_of_line c n) ≡ true
   its_gate = let range = gate_range c n a_gate in AllPass-from_list_all (legal (lines c)) c.gates wired (n - suc c.inputs) no_gate (omega arith)
 
@@ -90,10 +90,10 @@ module _ (c : Circuit) (wired : Wired c) (n : ℕ) (a_gate : IsGate (net c) n) w
       let is = reads_at_gate c n (n - suc c.inputs) (omega arith) in
       subst (λ ms. 0 < length ms) (sym is) (some_fit (gate_of_line c n).kind (length (gate_of_line c n).reads) its_parts.1)
 
-  pub read_line : (m : ℕ) → Reads c n m → IsLine (net c) m
+  pub read_line : (m : ℕ) → Reads c n m → IsLine (topology c) m
   read_line m read = let b = read_bounds c (lines c) n m wired read in a_line c m b.0 b.1
 
-pub sound : (c : Circuit) → Wired c → Sound (net c)
+pub sound : (c : Circuit) → Wired c → Sound (topology c)
 sound c wired = record {
   takes_time = gate_time c wired;
   reads_some = gate_reads c wired;

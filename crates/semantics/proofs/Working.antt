@@ -6,11 +6,12 @@ use Rattle.netlist.specs.Walks.{Walk, Reached}
 use Rattle.values.specs.Knowledge.{three_valued, stands_for}
 use Rattle.values.specs.Systems.{two_valued}
 use Rattle.values.specs.declared.ternary.Ternary.TheVariants.{Zero, One, X}
-use Rattle.semantics.specs.Accounts.{Kept}
-use Rattle.semantics.specs.Computed.{setup, initial, value, begin_to, follow_to, looped, leads}
+use Rattle.semantics.specs.Accounts.{KeptChanges}
+use Rattle.semantics.specs.Computed.{initial, value, begin_to, follow_to, looped, leads}
+use Rattle.semantics.specs.CircuitMachine.{machine}
 use Rattle.semantics.specs.Logs.{Ending, Run, Step, Steps, Log}
-use Rattle.semantics.specs.Moves.{made, fed, held, taken, trimmed}
-use Rattle.semantics.specs.Worked.{pulse, pulse_and_on, latch, bits, given, AtRest, stopped, FullLine, freed, FreedLine, held_up, HeldUpLine, at_once, early, first_stretch, in_stretches, AnyOrder, ahead, caught_up, known, KnownLines, set, latched, LatchedLines}
+use Rattle.semantics.specs.Moves.{made, fed, held, taken, trimmed, CanTake}
+use Rattle.semantics.specs.Worked.{pulse, pulse_and_on, latch, bits, given, AtRest, stopped, FullLine, freed, FreedLine, held_up, HeldUpLine, at_once, early, early_first, first_stretch, in_stretches, AnyOrder, ahead, caught_up, FrontAhead, known, KnownLines, set, latched, LatchedLines}
 use Rattle.semantics.proofs.Comparing.{equal_bits, equal_values, same_values}
 use Rattle.semantics.proofs.Proved.{held as invariants}
 use Rattle.semantics.proofs.Settling.{overfull}
@@ -19,7 +20,7 @@ use Rattle.semantics.proofs.Wiring.{input_range}
 
 -- of bits in one circuit
 module _ (c : Circuit) where
-  bits_given : (room : ℕ) → Log (setup two_valued c room) (made (λ n. false))
+  bits_given : (room : ℕ) → Log (machine two_valued c room) (made (λ n. false))
   bits_given room = begun equal_bits two_valued c room (λ n. false)
 
 -- with room for one change
@@ -73,7 +74,7 @@ freed_line = record {
 }
 
 -- with a line that reads the full one
-held_up_run : Run (setup two_valued pulse_and_on 1) 5 given held_up 3 Ending.rest
+held_up_run : Run (machine two_valued pulse_and_on 1) 5 given held_up 3 Ending.rest
 unfolding initial value begin_to follow_to looped leads
 held_up_run = run_to_rest equal_bits two_valued pulse_and_on 1 given 5 ((2, 20) ∷ (3, 12) ∷ (4, 13) ∷ []) refl refl refl
 
@@ -107,16 +108,28 @@ other_stretch : Run (bits 2) 5 (held first_stretch 1 20) in_stretches 2 Ending.r
 unfolding initial value begin_to follow_to looped leads
 other_stretch = run_to_rest equal_bits two_valued pulse 2 (held first_stretch 1 20) 5 ((2, 20) ∷ (3, 20) ∷ []) refl refl refl
 
+early_take : CanTake (bits 2) given 3 2
+unfolding initial value begin_to follow_to looped leads
+early_take = can_take equal_bits two_valued pulse 2 given 3 2 refl
+
+later_run : Run (bits 2) 5 early early_first 2 Ending.rest
+unfolding initial value begin_to follow_to looped leads
+later_run = run_to_rest equal_bits two_valued pulse 2 early 5 ((2, 20) ∷ (3, 20) ∷ []) refl refl refl
+
 pub any_order : AnyOrder
 unfolding initial value begin_to follow_to looped leads
 any_order = record {
   run = at_once_run;
   rests = record { log = then_run equal_bits two_valued pulse 2 (then_hold equal_bits two_valued pulse 2 1 20 fed_log refl) at_once_run; rest = at_rest equal_bits two_valued pulse 2 at_once refl };
-  early_take = can_take equal_bits two_valued pulse 2 given 3 2 refl;
-  later_run = run_to_rest equal_bits two_valued pulse 2 early 5 ((2, 20) ∷ (3, 20) ∷ []) refl refl refl;
+  early_take = early_take;
+  later_run = later_run;
+  early_rests = record {
+    log = then_run equal_bits two_valued pulse 2 (then_take equal_bits two_valued pulse 2 3 2 (then_hold equal_bits two_valued pulse 2 1 20 fed_log refl) refl) later_run;
+    rest = at_rest equal_bits two_valued pulse 2 early_first refl;
+  };
   one_stretch = one_stretch;
   other_stretch = other_stretch;
-  rests_too = record {
+  stretches_rest = record {
     log = then_run equal_bits two_valued pulse 2 (then_hold equal_bits two_valued pulse 2 1 20 (then_run equal_bits two_valued pulse 2 fed_log one_stretch) refl) other_stretch;
     rest = at_rest equal_bits two_valued pulse 2 in_stretches refl;
   };
@@ -132,12 +145,23 @@ pub ahead_run : Run (bits 2) 5 ahead caught_up 3 Ending.rest
 unfolding initial value begin_to follow_to looped leads
 ahead_run = run_to_rest equal_bits two_valued pulse 2 ahead 5 ((3, 7) ∷ (2, 20) ∷ (3, 20) ∷ []) refl refl refl
 
-pub short_run : Run (bits 2) 2 ahead (taken (taken ahead 3 7) 2 20) 2 Ending.more
+ahead_log : Log (bits 2) ahead
 unfolding initial value begin_to follow_to looped leads
-short_run = Run.to_count (each_take equal_bits two_valued pulse 2 ahead ((3, 7) ∷ (2, 20) ∷ []) refl) (takeable equal_bits two_valued pulse 2 (taken (taken ahead 3 7) 2 20) 3 20 refl)
+ahead_log =
+    then_hold equal_bits two_valued pulse 2 1 20
+    (then_feed equal_bits two_valued pulse 2 1 10 true (then_take equal_bits two_valued pulse 2 2 5 (then_hold equal_bits two_valued pulse 2 1 5 (bits_given pulse 2) refl) refl) refl refl) refl
+
+pub front_ahead : FrontAhead
+unfolding initial value begin_to follow_to looped leads
+front_ahead = record {
+  log = ahead_log;
+  rests = record { log = then_run equal_bits two_valued pulse 2 ahead_log ahead_run; rest = at_rest equal_bits two_valued pulse 2 caught_up refl };
+  short_run =
+      Run.to_count (each_take equal_bits two_valued pulse 2 ahead ((3, 7) ∷ (2, 20) ∷ []) refl) (takeable equal_bits two_valued pulse 2 (taken (taken ahead 3 7) 2 20) 3 20 refl);
+}
 
 -- in three values
-known_rests : AtRest (setup three_valued pulse 3) known
+known_rests : AtRest (machine three_valued pulse 3) known
 unfolding same_values initial value begin_to follow_to looped leads
 known_rests = record {
   log =
@@ -148,7 +172,7 @@ known_rests = record {
   rest = at_rest equal_values three_valued pulse 3 known refl;
 }
 
-pub kept_by_third : Kept (setup three_valued pulse 3) known 3 (1 ∷ 11 ∷ 13 ∷ [])
+pub kept_by_third : KeptChanges (machine three_valued pulse 3) known 3 (1 ∷ 11 ∷ 13 ∷ [])
 unfolding same_values initial value begin_to follow_to looped leads
 kept_by_third = listed_to equal_values three_valued pulse 3 known 3 21 (1 ∷ 11 ∷ 13 ∷ []) (omega arith) refl
 
@@ -175,12 +199,12 @@ known_lines = record {
 }
 
 -- in a loop
-latched_run : Run (setup three_valued latch 2) 20 set latched 11 Ending.rest
+latched_run : Run (machine three_valued latch 2) 20 set latched 11 Ending.rest
 unfolding same_values initial value begin_to follow_to looped leads
 latched_run =
     run_to_rest equal_values three_valued latch 2 set 20 ((3, 1) ∷ (4, 2) ∷ (3, 3) ∷ (4, 4) ∷ (3, 5) ∷ (4, 6) ∷ (3, 7) ∷ (4, 8) ∷ (3, 9) ∷ (4, 10) ∷ (3, 10) ∷ []) refl refl refl
 
-latched_log : Log (setup three_valued latch 2) set
+latched_log : Log (machine three_valued latch 2) set
 unfolding same_values initial value begin_to follow_to looped leads
 latched_log =
     then_hold equal_values three_valued latch 2 2 10

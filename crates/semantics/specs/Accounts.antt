@@ -1,8 +1,8 @@
 -- What a session stands for: what it was given, and how far each line is settled.
 use Rattle.std.specs.Prelude.{◌≡◌, ℕ, zero, suc, ◌+◌, ◌≤◌, min, List, [], ◌∷◌, map, fold}
 use Rattle.semantics.specs.Changes.{Changes, Exactly}
-use Rattle.semantics.specs.Nets.{Net, Setup}
-use Rattle.semantics.specs.Nets.Driver.{undriven, input, gate}
+use Rattle.semantics.specs.Machines.{Topology, Machine}
+use Rattle.semantics.specs.Machines.Driver.{undriven, input, gate}
 
 -- An input has an initial value, and a waveform, its value at each tick. Its end is the tick below which it has been given
 -- values; from there on its waveform keeps the last of them. A gate has a front, up to which it has followed the lines that
@@ -21,14 +21,14 @@ least (t ∷ ts) = fold min t ts
 
 module _ {M : Type 0} where
   -- A line is settled below this tick: an input up to its end, a gate line up to its front plus its gate's lag.
-  abbrev pub settled : Net → Account M → ℕ → ℕ
-  settled net a n = elim (net.driver n) [ undriven ↦ 0 | input ↦ a.end n | gate ↦ a.front n + net.lag n ]
+  abbrev pub settled : Topology → Account M → ℕ → ℕ
+  settled topology a n = elim (topology.driver n) [ undriven ↦ 0 | input ↦ a.end n | gate ↦ a.front n + topology.lag n ]
 
   -- A gate's goal is the least settled time of the lines that it reads: its front moves up to there and no further.
-  abbrev pub goal : Net → Account M → ℕ → ℕ
-  goal net a n = least (map (settled net a) (net.reads n))
+  abbrev pub goal : Topology → Account M → ℕ → ℕ
+  goal topology a n = least (map (settled topology a) (topology.reads n))
 
-  module _ (s : Setup M) (a : Account M) (n : ℕ) where
+  module _ (s : Machine M) (a : Account M) (n : ℕ) where
     abbrev pub initial : M
     initial = s.rule.initial a.start n
 
@@ -45,8 +45,8 @@ module _ {M : Type 0} where
     Stable t = value t ≡ before t
 
     -- the kept changes: all from the trim tick on and below the settled time
-    abbrev pub Kept : List ℕ → Type 0
-    Kept ts = Changes Stable (settled s.net a n) a.trim ts
+    abbrev pub KeptChanges : List ℕ → Type 0
+    KeptChanges ts = Changes Stable (settled s.topology a n) a.trim ts
 
     -- at a tick comes a change that would be kept, for which there is no room
     pub record Overflows (t : ℕ) : Type 0 where

@@ -1,10 +1,10 @@
--- Circuits as nets.
+-- Circuits: which lines they have, what drives them, and when they are wired.
 use Rattle.std.specs.Prelude.{◌≡◌, ℕ, zero, suc, ◌+◌, ◌-◌, true, cond, length, nat_lt, slice_index_or}
 use Rattle.std.specs.List.{list_all}
 use Rattle.netlist.specs.Gates.{Gate, Circuit, legal}
 use Rattle.netlist.specs.Walks.{no_gate, reads}
-use Rattle.semantics.specs.Nets.{Driver, Net}
-use Rattle.semantics.specs.Nets.Driver.{undriven, input, gate}
+use Rattle.semantics.specs.Machines.{Driver, Topology}
+use Rattle.semantics.specs.Machines.Driver.{undriven, input, gate}
 
 abbrev pub lines : Circuit → ℕ
 lines c = c.inputs + length c.gates
@@ -17,9 +17,9 @@ abbrev pub driver : Circuit → ℕ → Driver
 driver c zero = undriven
 driver c (suc k) = cond (nat_lt k c.inputs) input (cond (nat_lt k (lines c)) gate undriven)
 
--- a gate line is settled beyond the lines that its gate reads by the gate's delay
-abbrev pub net : Circuit → Net
-net c = record { driver = driver c; lag = λ n. (gate_of_line c n).delay; reads = reads c }
+-- a gate's lag is its delay
+abbrev pub topology : Circuit → Topology
+topology c = record { driver = driver c; lag = λ n. (gate_of_line c n).delay; reads = reads c }
 
 -- every gate has a delay of 1 to 65,535, as many lines to read as its kind takes, and reads lines of the circuit
 abbrev pub Wired : Circuit → Type 0

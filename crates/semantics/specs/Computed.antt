@@ -1,14 +1,13 @@
--- Initial values and values, computed. Nothing here has to be believed: it is a law that they obey the rule, and nothing else
--- does.
+-- Initial values and values, computed. How they are need not be read: it is a law that they obey the rule, and that nothing
+-- else does.
 use Rattle.std.specs.Prelude.{ℕ, zero, suc, ◌-◌, Bool, true, false, ◌&&◌, ◌||◌, map, nat_lt, ◌==◌}
 use Rattle.std.specs.List.{list_any}
 use Rattle.netlist.specs.Gates.{Circuit}
 use Rattle.netlist.specs.Walks.{reads}
 use Rattle.values.specs.Systems.{System}
 use Rattle.gates.specs.Functions.{gate_function}
-use Rattle.semantics.specs.Circuits.{lines, gate_of_line, driver, net}
-use Rattle.semantics.specs.Nets.{Rule, Setup}
-use Rattle.semantics.specs.Nets.Driver.{undriven, input, gate}
+use Rattle.semantics.specs.Circuits.{lines, gate_of_line, driver}
+use Rattle.semantics.specs.Machines.Driver.{undriven, input, gate}
 
 -- a walk leads from line m to line n whose inner lines are all below k
 unfoldable pub leads : Circuit → ℕ → ℕ → ℕ → Bool
@@ -55,9 +54,3 @@ module _ {M : Type 0} (s : System M) (c : Circuit) (start : ℕ → M) where
     -- the value of a line at a tick; every gate takes a tick at least
     unfoldable pub value : ℕ → ℕ → M
     value n t = follow_to (suc t) n t
-
-abbrev pub rule : {M : Type 0} → System M → Circuit → Rule M
-rule s c = record { initial = initial s c; value = value s c }
-
-abbrev pub setup : {M : Type 0} → System M → Circuit → ℕ → Setup M
-setup s c room = record { net = net c; rule = rule s c; room = room }

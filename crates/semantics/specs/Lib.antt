@@ -1,12 +1,13 @@
 pub mod Accounts
 pub mod Changes
+pub mod CircuitMachine
 pub mod Circuits
 pub mod Comparisons
 pub mod Computed
 pub mod Distances
 pub mod Laws
 pub mod Logs
+pub mod Machines
 pub mod Moves
-pub mod Nets
 pub mod Rules
 pub mod Worked

@@ -1,6 +1,6 @@
 -- Logs: the calls that a session accepted, its making first. A refused call is no part of a log.
 use Rattle.std.specs.Prelude.{ℕ, zero, suc, ◌≤◌}
-use Rattle.semantics.specs.Nets.{Setup}
+use Rattle.semantics.specs.Machines.{Machine}
 use Rattle.semantics.specs.Accounts.{Account}
 use Rattle.semantics.specs.Moves.{made, fed, held, taken, trimmed, CanFeed, CanHold, CanTake, CanTrim, Takeable, ComesFirst, Rest}
 
@@ -9,7 +9,7 @@ pub data Ending : Type 0 where
   rest : Ending
   more : Ending
 
-module _ {M : Type 0} (s : Setup M) where
+module _ {M : Type 0} (s : Machine M) where
   -- so many takes lead from one account to another, each of the gate that comes first
   pub data Takes : ℕ → Account M → Account M → Type 0 where
     none : {a : Account M} → Takes zero a a

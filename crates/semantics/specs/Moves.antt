@@ -1,7 +1,7 @@
 -- How an account changes, call by call.
 use Rattle.std.specs.Prelude.{◌≡◌, ℕ, ◌+◌, ◌<◌, ◌≤◌, cond, nat_lt, ◌==◌, ◌⊎◌}
 use Rattle.semantics.specs.Changes.{AtMost}
-use Rattle.semantics.specs.Nets.{IsInput, IsGate, Setup}
+use Rattle.semantics.specs.Machines.{IsInput, IsGate, Machine}
 use Rattle.semantics.specs.Accounts.{Account, goal, Stable, Overflows}
 
 -- a function of lines with another answer for one line
@@ -27,32 +27,32 @@ module _ {M : Type 0} where
   abbrev pub trimmed : Account M → ℕ → Account M
   trimmed a t = record a { trim = t }
 
-  module _ (s : Setup M) (a : Account M) where
+  module _ (s : Machine M) (a : Account M) where
     -- an input can be fed at its end or later, up to a limit, if there is room for the change that this makes
     pub record CanFeed (n t : ℕ) (v : M) : Type 0 where
-      pub an_input : IsInput s.net n
+      pub an_input : IsInput s.topology n
       pub not_past : a.end n ≤ t
       pub in_time : t ≤ 1999999999
       pub fits : AtMost s.room (Stable s (fed a n t v) n) a.trim (t + 1)
 
     pub record CanHold (n t : ℕ) : Type 0 where
-      pub an_input : IsInput s.net n
+      pub an_input : IsInput s.topology n
       pub not_past : a.end n ≤ t
       pub in_time : t ≤ 2000000000
 
     -- A gate can be taken to a front beyond its own: to its goal, or to where a change comes for which there is no room.
     pub record CanTake (n front : ℕ) : Type 0 where
-      pub a_gate : IsGate s.net n
+      pub a_gate : IsGate s.topology n
       pub onward : a.front n < front
-      pub not_beyond : front ≤ goal s.net a n
-      pub fits : AtMost s.room (Stable s a n) a.trim (front + s.net.lag n)
-      pub stops : (front ≡ goal s.net a n) ⊎ Overflows s a n (front + s.net.lag n)
+      pub not_beyond : front ≤ goal s.topology a n
+      pub fits : AtMost s.room (Stable s a n) a.trim (front + s.topology.lag n)
+      pub stops : (front ≡ goal s.topology a n) ⊎ Overflows s a n (front + s.topology.lag n)
 
     -- changes can be dropped below a tick that every end and every front has reached
     pub record CanTrim (t : ℕ) : Type 0 where
       pub not_past : a.trim ≤ t
-      pub ends_reach : (n : ℕ) → IsInput s.net n → t ≤ a.end n
-      pub fronts_reach : (n : ℕ) → IsGate s.net n → t ≤ a.front n
+      pub ends_reach : (n : ℕ) → IsInput s.topology n → t ≤ a.end n
+      pub fronts_reach : (n : ℕ) → IsGate s.topology n → t ≤ a.front n
 
     -- the gate can be taken to some front
     pub record Takeable (n : ℕ) : Type 0 where
@@ -66,9 +66,9 @@ module _ {M : Type 0} where
 
     -- A gate rests with its front at its goal, or full: below its goal, where a change comes for which there is no room.
     pub data Rests (n : ℕ) : Type 0 where
-      idle : a.front n ≡ goal s.net a n → Rests n
-      full : a.front n < goal s.net a n → Overflows s a n (a.front n + s.net.lag n) → Rests n
+      idle : a.front n ≡ goal s.topology a n → Rests n
+      full : a.front n < goal s.topology a n → Overflows s a n (a.front n + s.topology.lag n) → Rests n
 
     -- An account is at rest where every gate rests.
     abbrev pub Rest : Type 0
-    Rest = (n : ℕ) → IsGate s.net n → Rests n
+    Rest = (n : ℕ) → IsGate s.topology n → Rests n

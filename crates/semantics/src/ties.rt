@@ -2,7 +2,7 @@
 ghost use Rattle.std.specs.Prelude.{◌≡◌, ℕ, Bool, true, Contains};
 ghost use Rattle.netlist.specs.Gates.{Circuit};
 ghost use Rattle.semantics.specs.Circuits.{Wired};
-ghost use Rattle.semantics.specs.Computed.{setup};
+ghost use Rattle.semantics.specs.CircuitMachine.{machine};
 ghost use Rattle.semantics.specs.Laws.{TiesLines};
 ghost use Rattle.values.specs.Knowledge.{three_valued, stands_for};
 ghost use Rattle.values.specs.Lanes.{lanes};
@@ -22,20 +22,20 @@ pub fn kept_relations_tie_lines<V: ValueSystem, W: ValueSystem, R: Relation<V, W
     relation: &R,
 ) -> bool
     ensures ties_start { result ≡ true }
-    ensures ties_lines { (c : Circuit) (room other : ℕ) → Wired c → TiesLines (setup V.system c room) (setup W.system c other) (Tied V.meaning W.meaning (R.Ties relation.now)) }
+    ensures ties_lines { (c : Circuit) (room other : ℕ) → Wired c → TiesLines (machine V.system c room) (machine W.system c other) (Tied V.meaning W.meaning (R.Ties relation.now)) }
 {
     relation.ties(V::START, W::START)
 }
 
-// The same for all relations of meanings that a test decides.
+// The same for every kept relation of meanings that a test decides.
 pub fn kept_tests_tie_lines<V: ValueSystem, W: ValueSystem>()
-    ensures tie_lines { (test : V.Sense → W.Sense → Bool) → Kept V.system W.system (λ left right. test left right ≡ true) → (c : Circuit) (room other : ℕ) → Wired c → TiesLines (setup V.system c room) (setup W.system c other) (λ left right. test left right ≡ true) }
+    ensures tie_lines { (test : V.Sense → W.Sense → Bool) → Kept V.system W.system (λ left right. test left right ≡ true) → (c : Circuit) (room other : ℕ) → Wired c → TiesLines (machine V.system c room) (machine W.system c other) (λ left right. test left right ≡ true) }
 {}
 
 // Each lane of a simulation of words is a simulation of bits.
 pub fn a_lane_simulates_bits(lane: Lane) -> bool
     ensures ties_start { result ≡ true }
-    ensures has_the_bits { (c : Circuit) (room other : ℕ) → Wired c → TiesLines (setup lanes c room) (setup two_valued c other) (λ word bit. word lane ≡ bit) }
+    ensures has_the_bits { (c : Circuit) (room other : ℕ) → Wired c → TiesLines (machine lanes c room) (machine two_valued c other) (λ word bit. word lane ≡ bit) }
 {
     kept_relations_tie_lines::<Lanes, Bit, Lane>(&lane)
 }
@@ -43,7 +43,7 @@ pub fn a_lane_simulates_bits(lane: Lane) -> bool
 // A three-valued simulation stands for each simulation of bits for which its inputs stand.
 pub fn a_value_stands_for_all_that_may_be() -> bool
     ensures ties_start { result ≡ true }
-    ensures stands_for_the_bits { (c : Circuit) (room other : ℕ) → Wired c → TiesLines (setup three_valued c room) (setup two_valued c other) (λ value bit. Contains (stands_for value) bit) }
+    ensures stands_for_the_bits { (c : Circuit) (room other : ℕ) → Wired c → TiesLines (machine three_valued c room) (machine two_valued c other) (λ value bit. Contains (stands_for value) bit) }
 {
     kept_relations_tie_lines::<Ternary, Bit, StandsFor>(&StandsFor)
 }

@@ -1,11 +1,10 @@
 // Worked logs, computed: what they come to, and that there are such logs.
 ghost use Rattle.std.specs.Prelude.{◌≡◌, List, [], ◌∷◌};
 ghost use Rattle.values.specs.Knowledge.{three_valued};
-ghost use Rattle.semantics.specs.Accounts.{Kept};
-ghost use Rattle.semantics.specs.Computed.{setup};
+ghost use Rattle.semantics.specs.Accounts.{KeptChanges};
+ghost use Rattle.semantics.specs.CircuitMachine.{machine};
 ghost use Rattle.semantics.specs.Logs.{Ending, Run};
-ghost use Rattle.semantics.specs.Moves.{taken};
-ghost use Rattle.semantics.specs.Worked.{pulse, pulse_and_on, latch, bits, settled_times, stopped, FullLine, freed, FreedLine, held_up, HeldUpLine, at_once, in_stretches, AnyOrder, ahead, caught_up, known, KnownLines, latched, LatchedLines};
+ghost use Rattle.semantics.specs.Worked.{pulse, pulse_and_on, latch, bits, settled_times, stopped, FullLine, freed, FreedLine, held_up, HeldUpLine, at_once, early_first, in_stretches, AnyOrder, ahead, caught_up, FrontAhead, known, KnownLines, latched, LatchedLines};
 
 // How far the three lines are settled where one change of each is kept, and line 3 is full at 13.
 #[tactic(auto, using(crate::proofs::Working::full_line))]
@@ -34,21 +33,22 @@ pub fn times_behind_a_full_line() -> [u32; 2]
     [13, 17]
 }
 
-// How far the three lines are settled where two changes of each are kept, in one run or in two.
+// How far the three lines are settled where two changes of each are kept, in one run, in two, or in another order.
 #[tactic(auto, using(crate::proofs::Working::any_order))]
 pub fn times_in_any_order() -> [u32; 3]
     ensures are_those_of_one_run { result ≡ settled_times pulse at_once (1 ∷ 2 ∷ 3 ∷ []) }
     ensures are_those_of_two { result ≡ settled_times pulse in_stretches (1 ∷ 2 ∷ 3 ∷ []) }
-    ensures at_two_rests { AnyOrder }
+    ensures are_those_of_another_order { result ≡ settled_times pulse early_first (1 ∷ 2 ∷ 3 ∷ []) }
+    ensures at_rests { AnyOrder }
 {
     [20, 22, 21]
 }
 
 // How many takes a run makes which begins with the front of line 2 ahead of that of line 3.
-#[tactic(auto, using(crate::proofs::Working::ahead_run, crate::proofs::Working::short_run))]
+#[tactic(auto, using(crate::proofs::Working::ahead_run, crate::proofs::Working::front_ahead))]
 pub fn takes_with_a_front_ahead() -> u32
     ensures are_those_of_the_run { Run (bits 2) 5 ahead caught_up result Ending.rest }
-    ensures more_are_left_after_two { Run (bits 2) 2 ahead (taken (taken ahead 3 7) 2 20) 2 Ending.more }
+    ensures of_a_log { FrontAhead }
 {
     3
 }
@@ -56,7 +56,7 @@ pub fn takes_with_a_front_ahead() -> u32
 // Where line 3 changes if nothing is known of line 1 below tick 0.
 #[tactic(auto, using(crate::proofs::Working::kept_by_third, crate::proofs::Working::known_lines))]
 pub fn changes_of_a_line_unknown_at_first() -> [u32; 3]
-    ensures are_kept { Kept (setup three_valued pulse 3) known 3 result }
+    ensures are_kept { KeptChanges (machine three_valued pulse 3) known 3 result }
     ensures at_a_rest { KnownLines }
 {
     [1, 11, 13]

@@ -1,10 +1,11 @@
 -- Meanings of the three systems can be compared.
-use Rattle.std.proofs.Common.{◌≡◌, ℕ, zero, suc, ◌<◌, ◌≤◌, Bool, true, false, ◌⊎◌, refl, ap, sym, ◌∙◌, inl, inr, ⊎_elim, arith}
+use Rattle.std.proofs.Common.{◌≡◌, ℕ, zero, suc, ◌<◌, ◌≤◌, Bool, true, false, refl, ap, sym, ◌∙◌, ⊎_elim, arith}
 use Rattle.std.specs.Prelude.{Decides}
 use Rattle.std.specs.Cmp.{booleans_Decides}
 use Rattle.std.proofs.Math.Bool.{beq}
 use Rattle.std.proofs.Math.Path.{fun_ext}
-use Rattle.std.proofs.lemmas.Bool.{cases_Bool, cases_eq, both_ways}
+use Rattle.std.proofs.lemmas.Bool.{cases_Bool, cases_eq}
+use Rattle.std.proofs.lemmas.Bool.Decides.{not_from_Decides}
 use Rattle.values.specs.declared.lane.Lane.{Lane}
 use Rattle.values.specs.declared.ternary.Ternary.{Ternary}
 use Rattle.values.specs.declared.ternary.Ternary.TheVariants.{Zero, One, X}
@@ -40,12 +41,9 @@ abbrev pub equal_values : Equality Ternary
 equal_values = record { same = same_values; decides = values_decided }
 
 -- what a test decides can be told
-told : {P : Type 0} (answer : Bool) → Decides answer P → (answer ≡ true) ⊎ (answer ≡ false) → Dec P
-told answer decides (inl is) = yes (decides.0 is)
-told answer decides (inr is) = no (λ p. both_ways answer is (decides.1 p))
-
 pub compared : {M : Type 0} → Equality M → (x y : M) → Dec (x ≡ y)
-compared e x y = told (e.same x y) (e.decides x y) (cases_Bool (e.same x y))
+compared e x y =
+    ⊎_elim (λ is. yes ((e.decides x y).0 is)) (λ is. no (not_from_Decides (e.same x y) (e.decides x y) is)) (cases_Bool (e.same x y))
 
 module _ (x y : Lane → Bool) where
   abbrev AlikeBelow : ℕ → Type 0

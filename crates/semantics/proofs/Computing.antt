@@ -1,7 +1,8 @@
 -- Lists of changes, computed where it can be told whether a line is stable.
 use Rattle.std.proofs.Common.{◌≡◌, ℕ, zero, suc, ◌+◌, ◌<◌, Bool, false, cond, List, [], ◌∷◌, subst, ⊎_elim, arith}
 use Rattle.std.specs.Prelude.{Decides}
-use Rattle.std.proofs.lemmas.Bool.{cases_Bool, both_ways, cases_eq}
+use Rattle.std.proofs.lemmas.Bool.{cases_Bool, cases_eq}
+use Rattle.std.proofs.lemmas.Bool.Decides.{not_from_Decides}
 use Rattle.semantics.specs.Changes.{Changes}
 use Rattle.semantics.specs.Changes.Changes.{none, next}
 
@@ -20,7 +21,7 @@ module _ {Stable : ℕ → Type 0} where
 
 module _ (Stable : ℕ → Type 0) (quiet : ℕ → Bool) (tells : (t : ℕ) → Decides (quiet t) (Stable t)) where
   pub loud : (t : ℕ) → quiet t ≡ false → Stable t → ⊥
-  loud t is still = both_ways (quiet t) is ((tells t).1 still)
+  loud t is = not_from_Decides (quiet t) (tells t) is
 
   one_earlier : (to from : ℕ) (ts : List ℕ) → from < to → Changes Stable to (suc from) ts → Changes Stable to from (cond (quiet from) ts (from ∷ ts))
   one_earlier to from ts before rest =

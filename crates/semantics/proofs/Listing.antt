@@ -1,5 +1,6 @@
 -- Lists of changes: there is one, and how it follows the ticks that it is taken from.
 use Rattle.std.proofs.Common.{◌≡◌, ◌↔◌, ℕ, suc, ◌<◌, ◌≤◌, List, [], ◌∷◌, ◌++◌, length, refl, ap, sym, subst, ⊎_elim, arith}
+use mathlib.Core.Path.{ap₂}
 use Rattle.std.proofs.lemmas.Bool.{cases_lt, cases_order}
 use Rattle.semantics.specs.Changes.{StableOn, Changes, AtMost, Exactly}
 use Rattle.semantics.specs.Changes.Changes.{none, next}
@@ -18,10 +19,7 @@ module _ {Stable : ℕ → Type 0} where
   one_list {to = to} (next {t = t} {ts = ts} t_from t_to first changes rest) (next {t = u} {ts = us} u_from u_to first' changes' rest') =
       let same : t ≡ u = same_first t_from u_from first first' changes changes' in
       let rests : ts ≡ us = one_list rest (subst (λ x. Changes Stable to (suc x) us) (sym same) rest') in
-      cong2 same rests
-    where
-      cong2 : {x y : ℕ} {xs ys : List ℕ} → x ≡ y → xs ≡ ys → (x ∷ xs) ≡ (y ∷ ys)
-      cong2 e f = cc
+      ap₂ ◌∷◌ same rests
 
   -- where the list ends later, and nothing changes between
   pub onward : {to later from : ℕ} {ts : List ℕ} → to ≤ later → StableOn Stable to later → Changes Stable to from ts → Changes Stable later from ts

@@ -1,6 +1,6 @@
 -- The test of walks tells which lines lead to which.
-use Rattle.std.proofs.Common.{◌≡◌, ℕ, zero, suc, ◌<◌, ◌≤◌, Bool, true, false, ◌&&◌, ◌||◌, eqb, ◌⊎◌, length, get_or, refl, ap, subst, inl, inr, ⊎_elim, arith}
-use Rattle.std.proofs.lemmas.Bool.{cases_lt, eqb-true, eq-eqb, and_parts, and_from, or_cases, both_ways}
+use Rattle.std.proofs.Common.{◌≡◌, ℕ, zero, suc, ◌<◌, ◌≤◌, Bool, true, false, ◌&&◌, ◌||◌, eqb, ◌⊎◌, length, get_or, ap, subst, inl, inr, ⊎_elim, arith}
+use Rattle.std.proofs.lemmas.Bool.{cases_lt, eqb-true, eq-eqb, and_parts, and_from, or_cases, both_ways, or_right}
 use Rattle.std.proofs.lemmas.List.Folds.{Any-from_list_any, list_any_at}
 use Rattle.netlist.specs.Gates.{Circuit}
 use Rattle.netlist.specs.Walks.{reads, Reads, Walk, Looped}
@@ -9,10 +9,6 @@ use Rattle.netlist.proofs.Searching.{joined}
 use Rattle.semantics.specs.Circuits.{lines}
 use Rattle.semantics.specs.Computed.{leads, looped}
 use Rattle.semantics.proofs.Wiring.{reads_of}
-
-pub or_right : (x y : Bool) → y ≡ true → (x || y) ≡ true
-or_right true y is = refl
-or_right false y is = is
 
 module _ (c : Circuit) where
   -- a walk on which all lines between the first and the last are below k

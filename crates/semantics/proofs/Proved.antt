@@ -34,6 +34,9 @@ module _ {M : Type 0} (s : System M) (c : Circuit) where
     no_other_obeys = λ init v from obeyed. only_values s c wired start init from waveform v obeyed;
   }
 
+  pub calls_are_determined : (room : ℕ) → CallsAreDetermined (machine s c room)
+  calls_are_determined room a = record { take = one_front (machine s c room) a; run = λ most count other ending otherwise b d one two. one_run (machine s c room) one two }
+
   module _ (room : ℕ) (wired : Wired c) where
     pub held : (a : Account M) → Log (machine s c room) a → Invariant (machine s c room) a
     held a log = log_held (machine s c room) (rule_local s c wired) log
@@ -61,9 +64,6 @@ module _ {M : Type 0} (s : System M) (c : Circuit) where
     pub rest_is_where_no_gate_can_be_taken : ((x y : M) → Dec (x ≡ y)) → RestIsWhereNoGateCanBeTaken (machine s c room)
     rest_is_where_no_gate_can_be_taken told a log =
         rest_is_where_none (machine s c room) a (held a log) (sound c wired) (λ n a_gate t from to. told (value (machine s c room) a n t) (before (machine s c room) a n t))
-
-    pub calls_are_determined : CallsAreDetermined (machine s c room)
-    calls_are_determined a log = record { take = one_front (machine s c room) a; run = λ most count other ending otherwise b d one two. one_run (machine s c room) one two }
 
     pub runs_have_outcomes : ((x y : M) → Dec (x ≡ y)) → RunsHaveOutcomes (machine s c room)
     runs_have_outcomes compared a log most = outcome (machine s c room) (sound c wired) (suc (lines c)) (gate_below c) compared most a (held a log)

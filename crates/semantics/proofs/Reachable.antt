@@ -1,11 +1,11 @@
 -- Whether an input reaches a line can be told by a test, and so a truncated walk from an input is a walk.
 use Rattle.std.proofs.Common.{◌≡◌, ℕ, zero, suc, Bool, true, false, ◌||◌, refl, subst, ⊎_elim, arith}
-use Rattle.std.proofs.lemmas.Bool.{cases_eq, or_cases}
+use Rattle.std.proofs.lemmas.Bool.{cases_eq, or_cases, or_right}
 use mathlib.Core.Bool.{Bool-set}
 use mathlib.Core.Logic.{∥∥₁_elim}
 use Rattle.netlist.specs.Gates.{Circuit}
 use Rattle.netlist.specs.Walks.{Walk, Leads, Reached}
-use Rattle.semantics.proofs.Looping.{or_right, to, to_passes, to_walks}
+use Rattle.semantics.proofs.Looping.{to, to_passes, to_walks}
 
 module _ (c : Circuit) (n : ℕ) where
   -- one of the lines 1 to k leads to line n

@@ -1,6 +1,7 @@
 -- The functions that compute initial values and values obey the rule, and nothing else does: what obeys the rule in two
 -- systems is tied by every kept relation.
 use Rattle.std.proofs.Common.{◌≡◌, ℕ, zero, suc, ◌+◌, ◌-◌, ◌<◌, ◌≤◌, Bool, true, false, ltb, List, [], ◌∷◌, map, refl, ap, sym, ◌∙◌, subst, inl, inr, ⊎_elim, arith, Contains}
+use mathlib.Core.Path.{ap₂}
 use Rattle.std.specs.List.{AllZip}
 use Rattle.std.proofs.lemmas.Bool.{cases_lt, cases_Bool, lt-ltb, le-ltb}
 use Rattle.netlist.specs.Gates.{Circuit}
@@ -30,9 +31,9 @@ pub equality_kept : {M : Type 0} (s : System M) → Kept s s ◌≡◌
 equality_kept s = record {
   start = refl;
   not = λ a b same. ap s.not same;
-  and = λ a c b d one other. cc;
-  or = λ a c b d one other. cc;
-  xor = λ a c b d one other. cc;
+  and = λ a c b d one other. ap₂ s.and one other;
+  or = λ a c b d one other. ap₂ s.or one other;
+  xor = λ a c b d one other. ap₂ s.xor one other;
 }
 
 -- a gate shows the same of equal values

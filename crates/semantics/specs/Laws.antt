@@ -65,8 +65,9 @@ module _ {M : Type 0} (s : Machine M) where
     pub take : (n front other : ℕ) → CanTake s a n front → CanTake s a n other → front ≡ other
     pub run : (most count other : ℕ) (ending otherwise : Ending) (b d : Account M) → Run s most a b count ending → Run s most a d other otherwise → (b ≡ d) × (count ≡ other) × (ending ≡ otherwise)
 
+  -- From any account, also from one of no log.
   abbrev pub CallsAreDetermined : Type 0
-  CallsAreDetermined = (a : Account M) → Log s a → Determined a
+  CallsAreDetermined = (a : Account M) → Determined a
 
   -- what a run comes to and tells
   pub record Outcome (most : ℕ) (a : Account M) : Type 0 where

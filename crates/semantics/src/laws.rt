@@ -60,7 +60,7 @@ pub fn rest_is_so_in_the_three_systems()
 
 // A take or a run leads from an account to one account only, and a run has one answer only.
 pub fn calls_are_determined<V: ValueSystem>()
-    ensures after_every_log { (c : Circuit) (room : ℕ) → Wired c → CallsAreDetermined (machine V.system c room) }
+    ensures from_every_account { (c : Circuit) (room : ℕ) → CallsAreDetermined (machine V.system c room) }
 {}
 
 // A run of any number of takes has an outcome.

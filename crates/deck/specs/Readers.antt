@@ -1,6 +1,7 @@
 -- How far a reader has come, and what it does with a record.
-use Rattle.std.specs.Prelude.{◌≡◌, ℕ, suc, false, List, [], ◌∷◌, ◌++◌, length, Result, MatchResult, ◌≢◌}
+use Rattle.std.specs.Prelude.{◌≡◌, ℕ, suc, List, [], ◌∷◌, ◌++◌, length, Result, MatchResult, ◌≢◌}
 use Rattle.netlist.specs.Drafts.{Sheet, sheet, dead}
+use Rattle.netlist.specs.GateRow.{drawn}
 use Rattle.deck.specs.Phases.{progress}
 use Rattle.deck.specs.Progress.{Progress, blank, going, over, rows, Expected, expected}
 use Rattle.deck.specs.Records.{Failed}
@@ -15,18 +16,18 @@ use Rattle.deck.specs.declared.reader.DeckReader.{DeckReader}
 abbrev pub progress_of : DeckReader → Progress
 progress_of d = progress d.phase (sheet d.draft)
 
--- a gate of a deck is not marked as looped, which closing finds
-abbrev pub Unmarked : Entry → Type 0
-Unmarked (entry.Header h) = Unit {0}
-Unmarked (entry.Input n) = Unit {0}
-Unmarked (entry.Gate n row) = row.looped ≡ false
-Unmarked (entry.Output n) = Unit {0}
-Unmarked entry.End = Unit {0}
+-- a gate of a deck is as it was drawn: not marked as looped, which closing finds, and not moved, which sessions do
+abbrev pub AsDrawn : Entry → Type 0
+AsDrawn (entry.Header h) = Unit {0}
+AsDrawn (entry.Input n) = Unit {0}
+AsDrawn (entry.Gate n row) = row ≡ drawn row.gate
+AsDrawn (entry.Output n) = Unit {0}
+AsDrawn entry.End = Unit {0}
 
 -- the record spells the row of the entry, which comes after the rows taken before
 pub record Took (before after : DeckReader) (r : List ℕ) (e : Entry) : Type 0 where
   pub spelling : r ≡ text (row_of e)
-  pub unmarked : Unmarked e
+  pub as_drawn : AsDrawn e
   pub one_more : rows (progress_of after) ≡ rows (progress_of before) ++ (row_of e ∷ [])
 
 -- the answer to a record: the entry that was taken, or the fault of the first test that the record fails, of the
@@ -40,7 +41,7 @@ Answers before after r at tests answer =
 pub record TookFrom (before after : DeckReader) (bytes : List ℕ) (t : Taken) : Type 0 where
   pub rest : List ℕ
   pub spelling : bytes ≡ text (row_of t.entry) ++ (10 ∷ rest)
-  pub unmarked : Unmarked t.entry
+  pub as_drawn : AsDrawn t.entry
   pub count : t.bytes ≡ suc (length (text (row_of t.entry)))
   pub one_more : rows (progress_of after) ≡ rows (progress_of before) ++ (row_of t.entry ∷ [])
 

@@ -2,6 +2,7 @@
 ghost use Rattle.std.specs.Prelude.{◌≡◌, ◌+◌, ◌*◌, ◌≤◌, true, false, length, MatchResult};
 ghost use Rattle.std.specs.Int.{is_in_range};
 ghost use Rattle.netlist.specs.Drafts.{within_limits};
+ghost use Rattle.netlist.specs.GateRow.{drawn};
 ghost use Rattle.netlist.specs.Gates.{legal};
 ghost use Rattle.netlist.specs.Rows.{gate_of};
 ghost use Rattle.deck.specs.Progress.{header_next, input_next, gate_next, output_next, end_next};
@@ -187,7 +188,7 @@ impl<'a> Record<'a> {
 
     // G: the next gate. The fault of its row is matched, since a closure would promise nothing of what it makes.
     pub(crate) fn gate(&self, line: usize, lines: usize) -> Result<GateRow, Fault>
-        ensures { MatchResult result (λ row. Spells self.now (gate line (gate_of row)) × (legal lines (gate_of row) ≡ true) × (row.looped ≡ false)) (λ f. Failed (whole self.now) self.now.number (fields_tests (gate_next line lines) (length (whole self.now))) f) }
+        ensures { MatchResult result (λ row. Spells self.now (gate line (gate_of row)) × (legal lines (gate_of row) ≡ true) × (row ≡ drawn (gate_of row))) (λ f. Failed (whole self.now) self.now.number (fields_tests (gate_next line lines) (length (whole self.now))) f) }
     {
         self.length(&[18, 22, 26, 30])?;
         let count = (self.fields.len() - 13) / 4;

@@ -1,13 +1,18 @@
 -- A closed netlist as its reader sees it.
-use Rattle.std.specs.Prelude.{◌≡◌, ℕ, ◌+◌, ◌<◌, ◌≤◌, Bool, true, false, ◌⊎◌, List, length, count_by, Some, None, Option, slice_index, slice_index_or}
+use Rattle.std.specs.Prelude.{◌≡◌, ℕ, suc, ◌+◌, ◌-◌, ◌<◌, ◌≤◌, take, cond, nat_lt, Bool, true, false, ◌⊎◌, List, length, count_by, Some, None, Option, slice_index, slice_index_or}
 use Rattle.netlist.specs.declared.closed.Netlist.{Netlist}
-use Rattle.netlist.specs.GateRow.{MarkedGate}
+use Rattle.netlist.specs.declared.progress.Progress.{Progress}
+use Rattle.netlist.specs.GateRow.{MarkedGate, at_start, empty}
 use Rattle.netlist.specs.Gates.{Circuit}
 use Rattle.netlist.specs.Rows.{circuit_of}
 use Rattle.netlist.specs.Walks.{no_gate, Looped}
 
 abbrev pub circuit : Netlist → Circuit
 circuit n = circuit_of n.size n.rows n.ends
+
+-- how far a gate's line has come; other lines count as not moved
+abbrev pub progress_of : Netlist → ℕ → Progress
+progress_of n line = cond (nat_lt n.size.inputs line) (slice_index_or (take n.size.gates n.rows) (line - suc n.size.inputs) empty).progress at_start
 
 -- the row of the gate that drives a line, with its looped mark
 pub record Drives (c : Circuit) (n : ℕ) (row : MarkedGate) : Type 0 where

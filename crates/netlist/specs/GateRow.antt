@@ -1,17 +1,27 @@
 -- What a row of the table of gates shows, and how it keeps the lines that its gate reads.
 use Rattle.std.specs.Prelude.{◌≡◌, ℕ, ◌-◌, ◌≤◌, Bool, false, List, ◌++◌, length, take, drop, replicate}
 use Rattle.std.proofs.lemmas.List.{take-append-drop, length-take-le}
+use Rattle.netlist.specs.declared.progress.Progress.{Progress}
 use Rattle.netlist.specs.Gates.{Gate}
 use Rattle.netlist.specs.Walks.{no_gate}
 
--- a gate, and whether its line is marked as looped
+-- a gate, whether its line is marked as looped, and how far that line has come
 pub record MarkedGate : Type 0 where
   pub gate : Gate
   pub looped : Bool
+  pub progress : Progress
+
+-- a line that has not come further than tick 0, of which no change is kept
+abbrev pub at_start : Progress
+at_start = record { tick = 0; kept = 0 }
+
+-- the row of a gate that was just drawn
+abbrev pub drawn : Gate → MarkedGate
+drawn gate = record { gate = gate; looped = false; progress = at_start }
 
 -- a row that no gate has filled
 abbrev pub empty : MarkedGate
-empty = record { gate = no_gate; looped = false }
+empty = drawn no_gate
 
 -- so many lines stand in the first of four places, and 0 in the others
 pub record IsPadded (places : List ℕ) (count : ℕ) : Type 0 where

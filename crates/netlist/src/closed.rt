@@ -1,11 +1,12 @@
 // The closed netlist, which no longer grows.
-ghost use Rattle.std.specs.Prelude.{◌≡◌, ℕ, ◌+◌, ◌<◌, true, length, take, slice_index_or};
+ghost use Rattle.std.specs.Prelude.{◌≡◌, ℕ, ◌+◌, ◌<◌, ◌≤◌, true, length, take, IfSome, ◌≢◌, slice_index_or};
 ghost use Rattle.std.specs.List.{list_all};
 ghost use Rattle.netlist.specs.GateRow.{empty};
 ghost use Rattle.netlist.specs.Gates.{legal, on_lines};
 ghost use Rattle.netlist.specs.Rows.{HasPlaces, gates_of, circuit_of};
 ghost use Rattle.netlist.specs.Walks.{Reached, Looped};
 
+use crate::progress::Progress;
 use crate::row::{GateRow, row_of_line};
 use crate::size::Size;
 
@@ -27,7 +28,8 @@ pub struct Netlist {
 }
 
 impl Netlist {
-    ghost use Rattle.netlist.specs.Closed.{circuit, Row, Output, LoopCount};
+    ghost use Rattle.netlist.specs.Closed.{circuit, progress_of, Row, Output, LoopCount};
+    ghost use Rattle.netlist.specs.GateRow.{at_start};
     ghost use Rattle.netlist.specs.Gates.{nothing};
 
     // The netlist without lines.
@@ -75,9 +77,34 @@ impl Netlist {
 
     // The row of a gate line.
     pub fn row(&self, line: u32) -> Option<GateRow>
-        ensures { Row (circuit self.now) line result }
+        ensures of_the_line { Row (circuit self.now) line result }
+        ensures has_its_progress { IfSome result (λ row. row.progress ≡ progress_of self.now line) }
     {
         row_of_line(self.gate_rows(), self.size.inputs, line).copied()
+    }
+
+    // Tells how far a gate's line has come: its row is lent and changed, and no other row. Nothing is told of other lines.
+    pub fn advance(&mut self, line: u32, progress: Progress)
+        ensures same_circuit { circuit self.new ≡ circuit self.old }
+        ensures tells_a_gate { (circuit self.old).inputs < line → line ≤ (circuit self.old).inputs + length (circuit self.old).gates → progress_of self.new line ≡ progress }
+        ensures tells_no_other { (n : ℕ) → (n ≢ line) → progress_of self.new n ≡ progress_of self.old n }
+    {
+        let Some(place) = (line as usize).checked_sub(self.size.inputs + 1) else {
+            return;
+        };
+        if place < self.size.gates {
+            self.rows[place].advance(progress);
+        }
+    }
+
+    // Tells of every line that it has not come further than tick 0.
+    pub fn rewind(&mut self)
+        ensures same_circuit { circuit self.new ≡ circuit self.old }
+        ensures tells_every_gate { (n : ℕ) → progress_of self.new n ≡ at_start }
+    {
+        for place in 0..self.size.gates {
+            self.advance((self.size.inputs + 1 + place) as u32, Progress::default());
+        }
     }
 
     // The rows of the gates, in line order.

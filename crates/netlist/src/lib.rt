@@ -4,6 +4,7 @@
 pub mod closed;
 pub mod draft;
 pub mod kind;
+pub mod progress;
 pub mod refusal;
 pub mod row;
 pub mod size;

@@ -1,17 +1,19 @@
 // A row of the table of gates.
 ghost use Rattle.std.specs.Prelude.{◌≡◌, ℕ, ◌+◌, ◌<◌, ◌≤◌, false, cond, ◌⊎◌, length, IfOk, MatchOption, slice_index_or};
-ghost use Rattle.netlist.specs.GateRow.{empty};
+ghost use Rattle.netlist.specs.GateRow.{empty, drawn};
 ghost use Rattle.netlist.specs.Gates.{fits};
 ghost use Rattle.netlist.specs.Refusals.{answer};
 
 use crate::kind::Kind;
+use crate::progress::Progress;
 use crate::refusal::Refusal;
 use std::fmt;
 use std::marker::Model;
 
 // A gate: its kind, its delay, and the lines it reads, of which the first `count` stand in `lines`, with 0 after them.
-// `looped` is set at closing: a walk through gates leads from the gate's line back to itself. An array and a count, since
-// an empty row is repeated in the table, and a vector of bounded length cannot be copied.
+// `looped` is set at closing: a walk through gates leads from the gate's line back to itself. `progress` is moved by the
+// session that the netlist is given to. An array and a count, since an empty row is repeated in the table, and a vector of
+// bounded length cannot be copied.
 #[derive(Clone, Copy, Debug)]
 pub struct GateRow {
     pub kind: Kind,
@@ -19,6 +21,7 @@ pub struct GateRow {
     lines: [u32; 4],
     count: usize,
     pub looped: bool,
+    pub progress: Progress,
 }
 
 impl Model for GateRow {
@@ -27,11 +30,11 @@ impl Model for GateRow {
 
     ghost Value = { MarkedGate };
 
-    ghost view = { λ r. record { gate = record { kind = r.kind; delay = r.delay; reads = take r.count r.lines }; looped = r.looped } };
+    ghost view = { λ r. record { gate = record { kind = r.kind; delay = r.delay; reads = take r.count r.lines }; looped = r.looped; progress = r.progress } };
 
     ghost invariant = { λ r. IsPadded r.lines r.count };
 
-    ghost inverse = { λ v. record { kind = v.gate.kind; delay = v.gate.delay; lines = padded v.gate.reads; count = length v.gate.reads; looped = v.looped } };
+    ghost inverse = { λ v. record { kind = v.gate.kind; delay = v.gate.delay; lines = padded v.gate.reads; count = length v.gate.reads; looped = v.looped; progress = v.progress } };
 
     ghost inverse_ok = { λ r tidy. rw (padded_again r.lines r.count tidy, counted r.lines r.count tidy) refl };
 }
@@ -43,12 +46,13 @@ impl GateRow {
         lines: [0; 4],
         count: 0,
         looped: false,
+        progress: Progress { tick: 0, kept: 0 },
     };
 
     // The row of a gate, not marked as looped; refused where its kind does not take so many lines.
     pub fn new(kind: Kind, delay: u32, lines: &[u32]) -> Result<GateRow, Refusal>
         ensures answers { answer result ≡ cond (fits kind (length lines.now)) 0 7 }
-        ensures row { IfOk result (λ row. row ≡ record { gate = record { kind = kind; delay = delay; reads = lines.now }; looped = false }) }
+        ensures row { IfOk result (λ row. row ≡ drawn (record { kind = kind; delay = delay; reads = lines.now })) }
     {
         let count = lines.len();
         if !kind.takes(count) {
@@ -62,14 +66,22 @@ impl GateRow {
             lines: reads,
             count,
             looped: false,
+            progress: Progress::default(),
         })
     }
 
     // Marks the gate's line as looped, or as not. A call, since a row in a table is changed whole.
     pub(crate) fn mark(&mut self, looped: bool)
-        ensures { self.new ≡ record { gate = self.old.gate; looped = looped } }
+        ensures { self.new ≡ record { gate = self.old.gate; looped = looped; progress = self.old.progress } }
     {
         self.looped = looped;
+    }
+
+    // Tells how far the gate's line has come.
+    pub(crate) fn advance(&mut self, progress: Progress)
+        ensures { self.new ≡ record { gate = self.old.gate; looped = self.old.looped; progress = progress } }
+    {
+        self.progress = progress;
     }
 
     // The lines that the gate reads, from first to last.

@@ -50,7 +50,7 @@ returns c =
     let is = gate_added d c.requires.phase handed t c.add_gate.result c.add_gate.ensures.answers c.add_gate.ensures.adds fine in
     record {
       spelling = whole_is c.args.source.now (gate c.next_line-line.result row.gate) 71 c.requires.letter c.in_ok-row.ensures.0 refl;
-      unmarked = c.in_ok-row.ensures.2;
+      as_drawn = c.in_ok-row.ensures.2;
       one_more = (gate_stands d c.requires.phase handed t is c.if-takes_gate.self (elim c.if-takes_gate.branch [ then-takes_gate w ↦ inl (w.if-takes_gate.ensures, w.self-is) | else-takes_gate w ↦ inr (w.if-takes_gate.ensures, w.self-is) ])).grown
           ∙ (λ i. rows (progress_of d) ++ (gate (sym c.next_line-line.ensures i) (same i) ∷ []));
     }

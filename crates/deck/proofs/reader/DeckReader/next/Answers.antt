@@ -23,7 +23,7 @@ module _ (bytes : List ℕ) (n : ℕ) (within : n < length bytes) (ends : get_or
   took_here d t e took = record {
     rest = drop (suc n) bytes;
     spelling = at_ending bytes n within ends ∙ ap (λ l. l ++ (10 ∷ drop (suc n) bytes)) took.spelling;
-    unmarked = took.unmarked;
+    as_drawn = took.as_drawn;
     count = let long = length-take-le n bytes (omega arith) in omega (arith, ap length took.spelling);
     one_more = took.one_more;
   }

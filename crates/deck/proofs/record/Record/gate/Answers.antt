@@ -3,6 +3,7 @@ use Rattle.std.specs.List.{flat_map}
 use Rattle.std.proofs.lemmas.List.{drop_all}
 use Rattle.std.proofs.lemmas.Bool.{and_from, cond-false, false≢true}
 use Rattle.columns.specs.Spelling.{spelled}
+use Rattle.netlist.specs.GateRow.{drawn}
 use Rattle.netlist.specs.Gates.{fits}
 use Rattle.netlist.specs.declared.kind.Kind.{Kind}
 use Rattle.netlist.specs.Refusals.{number}
@@ -102,7 +103,7 @@ returns-in-Ok c =
     let reads = c.in_ok-reads.ensures in
     let ns = c.in_ok-reads.reads.items in
     let takes = passed (fits kind (length c.deref.result.now)) 0 7 (lit< tt) (sym c.in-Ok.ensures.answers) in
-    let made : c.in-Ok.row ≡ record { gate = record { kind = kind; delay = c.in_ok-delay.delay; reads = ns }; looped = false } = c.in-Ok.ensures.row ∙ ap (λ l. record { gate = record { kind = kind; delay = c.in_ok-delay.delay; reads = l }; looped = false }) c.deref.ensures.0 in
+    let made : c.in-Ok.row ≡ drawn (record { kind = kind; delay = c.in_ok-delay.delay; reads = ns }) = c.in-Ok.ensures.row ∙ ap (λ l. drawn (record { kind = kind; delay = c.in_ok-delay.delay; reads = l })) c.deref.ensures.0 in
     let first : fields ≡ spelled 4 c.args.line ++ drop 4 fields = cut fields _ 0 4 c.in_ok-turn.ensures.spelling in
     let second = cut fields _ 4 4 c.in_ok-kind.ensures in
     let third = cut fields _ 8 5 delay.0.spelling in

@@ -18,16 +18,16 @@ use Rattle.semantics.proofs.Wiring.{a_line, gate_range, input_range}
 
 module _ (c : Circuit) where
   -- what reads a line is a gate
-  reader : (n m : ℕ) → Reads c n m → IsGate (topology c) n
+  pub reader : (n m : ℕ) → Reads c n m → IsGate (topology c) n
   reader n m read = ⊎_elim (λ is. absurd (none (input_range c n is).1)) (λ is. is) (a_line c n (⊎_elim (λ past. omega arith) (λ low. absurd (none low)) (cases_lt c.inputs n)) (read_within c n m read))
     where
       none : n ≤ c.inputs → ⊥
       none low = let nothing : length (reads c n) ≡ 0 = ap length (reads_at_input c n low) in omega (arith, read.within)
 
-  reads_from : (n m : ℕ) → Reads c n m → ReadsFrom (topology c) n m
+  pub reads_from : (n m : ℕ) → Reads c n m → ReadsFrom (topology c) n m
   reads_from n m read = subst (ReadsFrom (topology c) n) read.is (Contains-get_or (reads c n) read.place 0 read.within)
 
-  an_input : (n : ℕ) (leads : Reached c n) → IsInput (topology c) leads.from
+  pub an_input : (n : ℕ) (leads : Reached c n) → IsInput (topology c) leads.from
   an_input n leads =
       ⊎_elim (λ is. is) (λ is. let range = gate_range c leads.from is in absurd (omega (arith, range.0, leads.not_after))) (a_line c leads.from leads.not_before (omega (arith, leads.not_after)))
 

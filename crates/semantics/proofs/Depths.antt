@@ -1,5 +1,5 @@
 -- How deep a gate line lies that is not looped: how many lines lead to it.
-use Rattle.std.proofs.Common.{◌≡◌, ℕ, zero, suc, ◌<◌, ◌≤◌, Bool, true, false, cond, refl, ap, ◌∙◌, ⊎_elim, arith}
+use Rattle.std.proofs.Common.{◌≡◌, ℕ, suc, ◌<◌, ◌≤◌, Bool, true, false, cond, refl, ap, ◌∙◌, ⊎_elim, arith}
 use Rattle.std.proofs.lemmas.Bool.{cases_Bool, both_ways}
 use Rattle.netlist.specs.Gates.{Circuit}
 use Rattle.netlist.specs.Walks.{Reads, Walk}
@@ -8,35 +8,9 @@ use Rattle.semantics.specs.Machines.{Driver, IsGate, IsInput}
 use Rattle.semantics.specs.Machines.Driver.{undriven, input, gate}
 use Rattle.semantics.specs.Circuits.{lines, driver, topology, Wired}
 use Rattle.semantics.specs.Computed.{looped}
+use Rattle.semantics.proofs.Counting.{counted, some_more, all_counted, none_counted}
 use Rattle.semantics.proofs.Looping.{to, to_passes, to_walks}
-use Rattle.semantics.proofs.Sums.{total, total_more}
 use Rattle.semantics.proofs.Wiring.{gate_range, line_range, read_line}
-
-one_if : Bool → ℕ
-one_if b = cond b 1 0
-
--- how many numbers below a bound pass a test
-counted : (ℕ → Bool) → ℕ → ℕ
-counted p k = total (λ j. one_if (p j)) k
-
-module _ (p q : ℕ → Bool) (passes_on : (j : ℕ) → p j ≡ true → q j ≡ true) where
-  one_more : (j : ℕ) → one_if (p j) ≤ one_if (q j)
-  unfolding one_if
-  one_more j = ⊎_elim (λ is. let on = passes_on j is in rw (is, on) (omega arith)) (λ is. rw is (omega arith)) (cases_Bool (p j))
-
-  some_more : (j k : ℕ) → j < k → p j ≡ false → q j ≡ true → counted p k < counted q k
-  unfolding counted one_if
-  some_more j k within fails passes = total_more (λ i. one_if (p i)) (λ i. one_if (q i)) one_more j k within (rw (fails, passes) (omega arith))
-
-all_counted : (k : ℕ) → counted (λ j. true) k ≡ k
-unfolding counted total one_if
-all_counted zero = refl
-all_counted (suc k) = let e = all_counted k in omega arith
-
-none_counted : (k : ℕ) → counted (λ j. false) k ≡ 0
-unfolding counted total one_if
-none_counted zero = refl
-none_counted (suc k) = let e = none_counted k in omega arith
 
 module _ (c : Circuit) where
   ancestors : ℕ → ℕ

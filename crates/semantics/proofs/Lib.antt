@@ -2,6 +2,7 @@ pub mod Agreeing
 pub mod Bounding
 pub mod Comparing
 pub mod Computing
+pub mod Counting
 pub mod Depths
 pub mod Goals
 pub mod Invariants
@@ -12,6 +13,7 @@ pub mod Looping
 pub mod Outcomes
 pub mod Proved
 pub mod Putting
+pub mod Ranking
 pub mod Reachable
 pub mod Reaching
 pub mod Resting

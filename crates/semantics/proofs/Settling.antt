@@ -16,10 +16,10 @@ module _ {M : Type 0} (s : Machine M) (a : Account M) (h : Invariant s a) where
   stops n stop over =
       ⊎_elim (λ beyond. absurd (no_room stop over.from_trim over.changes over.room_is_full beyond (h.fits n))) (λ within. within) (cases_lt stop (settled s.topology a n))
 
-  input_bound : (n : ℕ) → IsInput s.topology n → settled s.topology a n ≤ a.end n
+  pub input_bound : (n : ℕ) → IsInput s.topology n → settled s.topology a n ≤ a.end n
   input_bound n an_input = let e = settled_input s.topology a n an_input in omega arith
 
-  gate_bound : (n m far : ℕ) → IsGate s.topology n → ReadsFrom s.topology n m → settled s.topology a m ≤ far → settled s.topology a n ≤ far + s.topology.lag n
+  pub gate_bound : (n m far : ℕ) → IsGate s.topology n → ReadsFrom s.topology n m → settled s.topology a m ≤ far → settled s.topology a n ≤ far + s.topology.lag n
   gate_bound n m far a_gate read within = let e = settled_gate s.topology a n a_gate in let f = h.follows n m a_gate read in omega arith
 
   -- a line is settled no further than any path is long

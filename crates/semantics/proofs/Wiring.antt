@@ -84,6 +84,9 @@ module _ (c : Circuit) (wired : Wired c) (n : ℕ) (a_gate : IsGate (topology c)
   pub gate_time : 0 < (gate_of_line c n).delay
   gate_time = let b = bounds 1 65535 (gate_of_line c n).delay its_parts.0 in omega (arith, b.0)
 
+  pub gate_delay : (gate_of_line c n).delay ≤ 65535
+  gate_delay = (bounds 1 65535 (gate_of_line c n).delay its_parts.0).1
+
   pub gate_reads : 0 < length (reads c n)
   gate_reads =
       let range = gate_range c n a_gate in

@@ -95,6 +95,10 @@ module _ {M : Type 0} (s : Machine M) where
   abbrev pub SettledValuesStay : Type 0
   SettledValuesStay = (a b : Account M) → Log s a → Steps s a b → Stays s a b
 
+  -- In every log no line is settled further than to this tick.
+  abbrev pub SettledTimesAreBounded : ℕ → Type 0
+  SettledTimesAreBounded most = (a : Account M) → Log s a → (n : ℕ) → settled s.topology a n ≤ most
+
   -- At every rest each line is settled exactly to its distance.
   abbrev pub SettledIsTheDistance : Type 0
   SettledIsTheDistance = (a : Account M) → Log s a → Rest s a → (n : ℕ) → IsLine s.topology n → Distance s a n (settled s.topology a n)

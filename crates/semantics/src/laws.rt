@@ -1,10 +1,10 @@
 // The laws of settled lines in one value system, for all wired circuits, rooms and logs.
-ghost use Rattle.std.specs.Prelude.{◌≡◌, ℕ};
+ghost use Rattle.std.specs.Prelude.{◌≡◌, ℕ, ◌+◌, ◌*◌};
 ghost use Rattle.netlist.specs.Gates.{Circuit};
 ghost use Rattle.netlist.specs.Judging.{AllReached};
-ghost use Rattle.semantics.specs.Circuits.{Wired};
+ghost use Rattle.semantics.specs.Circuits.{lines, Wired};
 ghost use Rattle.semantics.specs.CircuitMachine.{machine};
-ghost use Rattle.semantics.specs.Laws.{RuleDeterminesValues, LogsAreInOrder, KeptChangesFit, GatesRestOrCanBeTaken, RestIsWhereNoGateCanBeTaken, CallsAreDetermined, RunsHaveOutcomes, RunsComeToRest, SettledValuesStay, SettledIsTheDistance, AlikeRestsAgree};
+ghost use Rattle.semantics.specs.Laws.{RuleDeterminesValues, LogsAreInOrder, KeptChangesFit, GatesRestOrCanBeTaken, RestIsWhereNoGateCanBeTaken, CallsAreDetermined, RunsHaveOutcomes, RunsComeToRest, SettledValuesStay, SettledTimesAreBounded, SettledIsTheDistance, AlikeRestsAgree};
 ghost use Rattle.values.specs.Knowledge.{three_valued};
 ghost use Rattle.values.specs.Lanes.{lanes};
 ghost use Rattle.values.specs.Systems.{two_valued};
@@ -76,6 +76,12 @@ pub fn runs_come_to_rest<V: ValueSystem>()
 // No call makes a line settled less, or alters a value that is settled.
 pub fn settled_values_stay<V: ValueSystem>()
     ensures whatever_is_called { (c : Circuit) (room : ℕ) → Wired c → SettledValuesStay (machine V.system c room) }
+{}
+
+// If every gate is reached by an input, no line is settled further than the latest tick at which an input may end, and the
+// greatest delay for each line.
+pub fn settled_times_are_bounded<V: ValueSystem>()
+    ensures in_every_log { (c : Circuit) (room : ℕ) → Wired c → AllReached c → SettledTimesAreBounded (machine V.system c room) (2000000000 + 65535 * lines c) }
 {}
 
 // At rest every line is settled exactly to its distance.

@@ -36,7 +36,7 @@ cases_driver topology n = told (topology.driver n) refl
     told gate is = inl (inr is)
 
 -- the least of a list is no more than each, and one of them
-fold_first : (t : ℕ) (ts : List ℕ) → fold min t ts ≤ t
+pub fold_first : (t : ℕ) (ts : List ℕ) → fold min t ts ≤ t
 fold_first t [] = omega arith
 fold_first t (u ∷ us) = let below = fold_first (min t u) us in omega arith
 

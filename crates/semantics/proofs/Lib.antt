@@ -1,5 +1,6 @@
 pub mod Agreeing
 pub mod Bounding
+pub mod Closed
 pub mod Comparing
 pub mod Computing
 pub mod Counting

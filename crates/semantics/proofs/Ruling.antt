@@ -37,7 +37,7 @@ equality_kept s = record {
 }
 
 -- a gate shows the same of equal values
-gates_equal : {M : Type 0} (s : System M) (kind : _) (f g : ℕ → M) (ms : List ℕ) → ((m : ℕ) → Contains ms m → f m ≡ g m) → gate_function s kind (map f ms) ≡ gate_function s kind (map g ms)
+pub gates_equal : {M : Type 0} (s : System M) (kind : _) (f g : ℕ → M) (ms : List ℕ) → ((m : ℕ) → Contains ms m → f m ≡ g m) → gate_function s kind (map f ms) ≡ gate_function s kind (map g ms)
 gates_equal s kind f g ms same = gates_tied s s ◌≡◌ (equality_kept s) kind (map f ms) (map g ms) (all_tied ◌≡◌ f g ms same)
 
 -- what a gate reads is a line of the circuit

@@ -1,0 +1,9 @@
+pub mod Advancing
+pub mod Folding
+pub mod Following
+pub mod Least
+pub mod Parts
+pub mod Reading
+pub mod Recordings
+pub mod Retelling
+pub mod Telling

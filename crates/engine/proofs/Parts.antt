@@ -1,0 +1,43 @@
+-- The parts of a store.
+use Rattle.std.proofs.Common.{◌≡◌, ℕ, suc, ◌+◌, ◌-◌, ◌*◌, ◌<◌, ◌≤◌, List, length, take, drop, ◌++◌, ◌∷◌, get_or, length-append, length-take-le, length-drop, ap, sym, ◌∙◌, subst, arith}
+use Rattle.std.proofs.Math.Nat.{mul-le-mul_right, suc-mul}
+use Rattle.std.proofs.lemmas.Slice.{take-put_mid_below, drop-put_mid, between-put_mid}
+use Rattle.std.proofs.lemmas.List.{take-take, drop_more}
+use borrow.Rule.Slice.PartMut.{put_mid}
+use Rattle.engine.specs.Stores.{OnlyThere, part}
+
+-- a line's records end where there are still those of the lines after it
+pub ends_within : (stride count n : ℕ) → 0 < n → n ≤ count → (n - 1) * stride + stride ≤ count * stride
+ends_within stride count n some within =
+    let whole : suc (n - 1) ≡ n = omega arith in
+    subst (λ x. x ≤ count * stride) (suc-mul (n - 1) stride) (subst (λ m. m * stride ≤ count * stride) (sym whole) (mul-le-mul_right stride within))
+
+-- a write to some records from a place on
+module _ {X : Type 0} (place count : ℕ) (xs ys : List X) (within : place + count ≤ length xs) where
+  there : length ys ≡ count → OnlyThere place count xs (put_mid place count xs ys)
+  there as_many = record {
+    same_length = omega (arith, as_many, length-append (take place xs) (ys ++ drop count (drop place xs)), length-append ys (drop count (drop place xs)), length-take-le place xs (omega arith), length-drop count (drop place xs), length-drop place xs);
+    before = take-put_mid_below place count xs ys place (omega arith) (omega arith);
+    after = drop-put_mid place count xs ys (place + count) (omega arith) (omega arith) as_many;
+  }
+
+  written : length ys ≡ count → take count (drop place (put_mid place count xs ys)) ≡ ys
+  written as_many =
+      let gap : place + count - place ≡ count = omega arith in
+      subst (λ n. take n (drop place (put_mid place count xs ys)) ≡ ys) gap (between-put_mid place count xs ys (place + count) (omega arith) (as_many ∙ sym gap))
+
+  -- where the place and the count are told in other words
+  pub wrote : (at k : ℕ) → at ≡ place → k ≡ count → length ys ≡ length (take k (drop at xs)) → OnlyThere place count xs (put_mid at k xs ys) × (take count (drop place (put_mid at k xs ys)) ≡ ys)
+  wrote at k same_place same_count as_many =
+      let all : length ys ≡ count = as_many ∙ (ap (λ n. length (take n (drop at xs))) same_count ∙ length-take-le count (drop at xs) (omega (arith, length-drop at xs))) in
+      subst (λ a. OnlyThere place count xs (put_mid a k xs ys) × (take count (drop place (put_mid a k xs ys)) ≡ ys)) (sym same_place)
+      (subst (λ n. OnlyThere place count xs (put_mid place n xs ys) × (take count (drop place (put_mid place n xs ys)) ≡ ys)) (sym same_count) (there all, written all))
+
+-- a part where its place and the count are told in other words
+pub part_in_other_words : {X : Type 0} (stride n : ℕ) (store : List X) (at k : ℕ) → at ≡ (n - 1) * stride → k ≡ stride → take k (drop at store) ≡ part stride n store
+part_in_other_words stride n store at k same_place same_count = ap (λ a. take k (drop a store)) same_place ∙ ap (λ j. take j (drop ((n - 1) * stride) store)) same_count
+
+-- the first records of a part
+pub part_events : {X : Type 0} (stride n kept : ℕ) (store : List X) (at : ℕ) (d : X) → at ≡ (n - 1) * stride → kept < stride → at + stride ≤ length store → get_or store at d ∷ take kept (drop (at + 1) store) ≡ take (suc kept) (part stride n store)
+part_events stride n kept store at d same few within =
+    sym (ap (λ a. take (suc kept) (take stride (drop a store))) (sym same) ∙ (take-take (suc kept) stride (drop at store) (omega arith) ∙ ap (take (suc kept)) (drop_more store at d (omega arith))))

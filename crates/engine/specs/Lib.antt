@@ -1,0 +1,6 @@
+pub mod Lines
+pub mod Looks
+pub mod Progresses
+pub mod Recordings
+pub mod Standing
+pub mod Stores

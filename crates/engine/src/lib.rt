@@ -1,0 +1,7 @@
+// The simulator: sessions on closed netlists, in any value system.
+#![tactic(auto)]
+
+mod evaluation;
+mod lines;
+mod records;
+mod taking;

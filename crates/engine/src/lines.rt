@@ -1,0 +1,90 @@
+// The lines of a session.
+ghost use Rattle.std.specs.Prelude.{◌≡◌, length};
+ghost use Rattle.engine.specs.Progresses.{KeptFit};
+
+use netlist::closed::Netlist;
+use netlist::progress::Progress;
+use netlist::row::GateRow;
+
+// What a session knows of its lines, apart from their records: the netlist, whose rows tell how far the gates have come,
+// how far the inputs have come, the tick from which on changes are kept, and how many records each line has.
+#[derive(Drop)]
+pub struct Lines {
+    pub netlist: Netlist,
+    pub inputs: [Progress; 256],
+    pub trim: u32,
+    pub stride: usize,
+    ghost table: { length inputs ≡ 256 },
+    ghost kept_fit: { KeptFit netlist inputs stride },
+}
+
+impl Lines {
+    ghost use Rattle.std.specs.Prelude.{ℕ, ◌-◌, ◌+◌, ◌*◌, ◌<◌, ◌≤◌, ◌≢◌, min, Contains, fold, map, Decides};
+    ghost use Rattle.engine.specs.Lines.{panel, moved, settled_in, extent, last_tick, IsLineOf};
+    ghost use Rattle.semantics.specs.Circuits.{lines};
+
+    // Whether there is such a line.
+    pub fn has(&self, line: u32) -> bool
+        ensures { Decides result (IsLineOf (panel self.now) line) }
+    {
+        (1..=self.netlist.lines()).contains(&(line as usize))
+    }
+
+    // How far a line has come.
+    pub fn progress(&self, line: u32) -> Progress
+        requires { IsLineOf (panel self.now) line }
+        ensures { result ≡ (panel self.now).progress line }
+    {
+        match self.netlist.row(line) {
+            Some(row) => row.progress,
+            None => self.inputs[line as usize - 1],
+        }
+    }
+
+    // How far a line is settled.
+    pub fn settled(&self, line: u32) -> u32
+        requires { IsLineOf (panel self.now) line }
+        ensures { result ≡ min (settled_in (panel self.now) line) last_tick }
+    {
+        match self.netlist.row(line) {
+            Some(row) => row.progress.tick.saturating_add(row.delay),
+            None => self.progress(line).tick,
+        }
+    }
+
+    // The goal of a gate, the least settled time of the lines that it reads.
+    pub fn goal(&self, row: &GateRow) -> u32
+        requires { (m : ℕ) → Contains row.now.gate.reads m → IsLineOf (panel self.now) m }
+        ensures { result ≡ fold min last_tick (map (settled_in (panel self.now)) row.now.gate.reads) }
+    {
+        let mut goal = u32::MAX;
+        for line in row.reads() {
+            goal = goal.min(self.settled(*line));
+        }
+        goal
+    }
+
+    // Tells how far a line has come, and nothing of the others.
+    pub fn advance(&mut self, line: u32, progress: Progress)
+        requires a_line { IsLineOf (panel self.old) line }
+        requires fits { progress.kept < self.old.stride }
+        ensures { panel self.new ≡ moved (panel self.old) line progress }
+    {
+        let place = line as usize - 1;
+        if place < self.netlist.inputs() {
+            self.inputs[place] = progress;
+        } else {
+            self.netlist.advance(line, progress);
+        }
+    }
+
+    // Where the records of a line begin.
+    pub fn place(&self, line: u32) -> usize
+        requires a_line { IsLineOf (panel self.now) line }
+        requires few { extent (panel self.now) ≤ 18446744073709551615 }
+        ensures begins { result ≡ (line - 1) * self.now.stride }
+        ensures ends { result + self.now.stride ≤ extent (panel self.now) }
+    {
+        (line as usize - 1) * self.stride
+    }
+}

@@ -1,0 +1,72 @@
+// The records of a session's lines.
+ghost use Rattle.std.specs.Prelude.{◌≡◌, ◌-◌, ◌*◌, ◌<◌, ◌∷◌, length, suc, take, drop};
+ghost use Rattle.std.specs.Option.{unwrap_or};
+ghost use Rattle.engine.specs.Lines.{panel, Holds, IsLineOf};
+ghost use Rattle.engine.specs.Recordings.{RecordedIn};
+ghost use Rattle.engine.specs.Stores.{part, OnlyThere};
+
+use crate::lines::Lines;
+use events::events::Events;
+use events::list::EventList;
+use events::record::EventRecord;
+use values::system::ValueSystem;
+
+// The events of a line.
+pub(crate) fn events_of<'a, V: ValueSystem>(
+    lines: &Lines,
+    store: &'a [EventRecord<V>],
+    line: u32,
+) -> Events<'a, V>
+    requires a_line { IsLineOf (panel lines.now) line }
+    requires holds { Holds (panel lines.now) store.now }
+    ensures { result.base ∷ result.changes.now ≡ take (suc ((panel lines.now).progress line).kept) (part lines.now.stride line store.now) }
+{
+    let place = lines.place(line);
+    let kept = lines.progress(line).kept;
+    Events {
+        base: store[place],
+        changes: &store[place + 1..=place + kept],
+    }
+}
+
+// Records in a line's part that there is a value from a tick on, and tells how many changes are kept then, if there is room.
+fn record_in<V: ValueSystem>(
+    part: &mut [EventRecord<V>],
+    kept: usize,
+    tick: u32,
+    value: V,
+) -> Option<usize>
+    requires { kept < length part.old }
+    ensures same_length { length part.new ≡ length part.old }
+    ensures recorded { RecordedIn V.Alike kept (record { tick = tick; value = value }) part.old result part.new }
+    ensures fits { unwrap_or result kept < length part.new }
+{
+    let mut list = EventList {
+        records: part,
+        kept,
+    };
+    if list.record(tick, value) {
+        Some(list.kept)
+    } else {
+        None
+    }
+}
+
+// The same for a line.
+pub(crate) fn record<V: ValueSystem>(
+    lines: &Lines,
+    store: &mut [EventRecord<V>],
+    line: u32,
+    tick: u32,
+    value: V,
+) -> Option<usize>
+    requires a_line { IsLineOf (panel lines.now) line }
+    requires holds { Holds (panel lines.now) store.old }
+    ensures only_there { OnlyThere ((line - 1) * lines.now.stride) lines.now.stride store.old store.new }
+    ensures recorded { RecordedIn V.Alike ((panel lines.now).progress line).kept (record { tick = tick; value = value }) (part lines.now.stride line store.old) result (part lines.now.stride line store.new) }
+    ensures fits { unwrap_or result ((panel lines.now).progress line).kept < lines.now.stride }
+{
+    let place = lines.place(line);
+    let kept = lines.progress(line).kept;
+    record_in(&mut store[place..place + lines.stride], kept, tick, value)
+}

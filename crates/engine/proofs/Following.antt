@@ -1,5 +1,5 @@
 -- How a gate's line follows the lines that the gate reads.
-use Rattle.std.proofs.Common.{◌≡◌, ℕ, zero, suc, ◌+◌, ◌-◌, ◌<◌, ◌≤◌, map, ap, sym, ◌∙◌, subst, arith, Contains}
+use Rattle.std.proofs.Common.{◌≡◌, ℕ, suc, ◌+◌, ◌-◌, map, ap, sym, ◌∙◌, subst, arith, Contains}
 use Rattle.netlist.specs.Gates.{Circuit}
 use Rattle.netlist.specs.Walks.{reads}
 use Rattle.values.specs.Systems.{System}

@@ -1,9 +1,14 @@
 pub mod Advancing
+pub mod Books
 pub mod Folding
 pub mod Following
 pub mod Least
+pub mod Moving
 pub mod Parts
 pub mod Reading
 pub mod Recordings
 pub mod Retelling
+pub mod Stepping
+pub mod Takes
 pub mod Telling
+pub mod Ways

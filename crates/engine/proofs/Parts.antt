@@ -1,8 +1,10 @@
 -- The parts of a store.
-use Rattle.std.proofs.Common.{◌≡◌, ℕ, suc, ◌+◌, ◌-◌, ◌*◌, ◌<◌, ◌≤◌, List, length, take, drop, ◌++◌, ◌∷◌, get_or, length-append, length-take-le, length-drop, ap, sym, ◌∙◌, subst, arith}
+use Rattle.std.proofs.Common.{◌≡◌, ℕ, suc, ◌+◌, ◌-◌, ◌*◌, ◌<◌, ◌≤◌, List, length, take, drop, ◌++◌, ◌∷◌, get_or, length-append, length-take-le, length-drop, ap, sym, ◌∙◌, subst, ⊎_elim, arith}
+use mathlib.Core.Path.{ap₂}
 use Rattle.std.proofs.Math.Nat.{mul-le-mul_right, suc-mul}
 use Rattle.std.proofs.lemmas.Slice.{take-put_mid_below, drop-put_mid, between-put_mid}
-use Rattle.std.proofs.lemmas.List.{take-take, drop_more}
+use Rattle.std.proofs.lemmas.Bool.{cases_order}
+use Rattle.std.proofs.lemmas.List.{take-take, drop_more, drop-take, drop-drop, take-append-drop}
 use borrow.Rule.Slice.PartMut.{put_mid}
 use Rattle.engine.specs.Stores.{OnlyThere, part}
 
@@ -41,3 +43,45 @@ part_in_other_words stride n store at k same_place same_count = ap (λ a. take k
 pub part_events : {X : Type 0} (stride n kept : ℕ) (store : List X) (at : ℕ) (d : X) → at ≡ (n - 1) * stride → kept < stride → at + stride ≤ length store → get_or store at d ∷ take kept (drop (at + 1) store) ≡ take (suc kept) (part stride n store)
 part_events stride n kept store at d same few within =
     sym (ap (λ a. take (suc kept) (take stride (drop a store))) (sym same) ∙ (take-take (suc kept) stride (drop at store) (omega arith) ∙ ap (take (suc kept)) (drop_more store at d (omega arith))))
+
+-- where only one part is another
+module _ {X : Type 0} (stride n : ℕ) (old new : List X) (some : 0 < n) (there : OnlyThere ((n - 1) * stride) stride old new) where
+  earlier : (i : ℕ) → i + stride ≤ (n - 1) * stride → take stride (drop i new) ≡ take stride (drop i old)
+  earlier i before = of_front new ∙ (ap (λ front. drop i (take (i + stride) front)) there.before ∙ sym (of_front old))
+    where
+      of_front : (xs : List X) → take stride (drop i xs) ≡ drop i (take (i + stride) (take ((n - 1) * stride) xs))
+      of_front xs = sym (drop-take i stride xs) ∙ ap (drop i) (sym (take-take (i + stride) ((n - 1) * stride) xs before))
+
+  pub later : (i : ℕ) → (n - 1) * stride + stride ≤ i → drop i new ≡ drop i old
+  later i after = of_back new ∙ (ap (drop (i - ((n - 1) * stride + stride))) there.after ∙ sym (of_back old))
+    where
+      whole : (n - 1) * stride + stride + (i - ((n - 1) * stride + stride)) ≡ i
+      whole = omega arith
+
+      of_back : (xs : List X) → drop i xs ≡ drop (i - ((n - 1) * stride + stride)) (drop ((n - 1) * stride + stride) xs)
+      of_back xs = sym (drop-drop (i - ((n - 1) * stride + stride)) ((n - 1) * stride + stride) xs ∙ ap (λ j. drop j xs) whole)
+
+  -- the others stay
+  pub part_else : (m : ℕ) → 0 < m → (m ≡ n → ⊥) → part stride m new ≡ part stride m old
+  part_else m positive other = ⊎_elim (λ same. absurd (other same))
+      (⊎_elim (λ before. earlier ((m - 1) * stride) (ends_within stride (n - 1) m positive (omega arith)))
+      (λ after. ap (take stride) (later ((m - 1) * stride) (ends_within stride (m - 1) n some (omega arith)))))
+      (cases_order m n)
+
+  -- where that part stays too, nothing is another
+  pub same_store : part stride n new ≡ part stride n old → new ≡ old
+  same_store same =
+      whole new ∙ (ap₂ ◌++◌ there.before (ap₂ ◌++◌ same there.after) ∙ sym (whole old))
+    where
+      whole : (xs : List X) → xs ≡ take ((n - 1) * stride) xs ++ (part stride n xs ++ drop ((n - 1) * stride + stride) xs)
+      whole xs =
+          sym (take-append-drop ((n - 1) * stride) xs)
+          ∙ ap (λ back. take ((n - 1) * stride) xs ++ back) (sym (take-append-drop stride (drop ((n - 1) * stride) xs)) ∙ ap (λ back. part stride n xs ++ back) (drop-drop stride ((n - 1) * stride) xs))
+
+-- a part is as long as it should be
+pub part_length : {X : Type 0} (stride count n : ℕ) (store : List X) → 0 < n → n ≤ count → count * stride ≤ length store → length (part stride n store) ≡ stride
+part_length stride count n store some within holds =
+    length-take-le stride (drop ((n - 1) * stride) store) (let ends = ends_within stride count n some within in omega (arith, length-drop ((n - 1) * stride) store))
+
+pub there_on : {X : Type 0} (place count : ℕ) (old mid new : List X) → OnlyThere place count old mid → OnlyThere place count mid new → OnlyThere place count old new
+there_on place count old mid new first second = record { same_length = second.same_length ∙ first.same_length; before = second.before ∙ first.before; after = second.after ∙ first.after }

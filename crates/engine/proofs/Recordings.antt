@@ -1,15 +1,15 @@
 -- What recording in a line's part comes to.
-use Rattle.std.proofs.Common.{◌≡◌, ◌↔◌, ℕ, zero, suc, ◌-◌, ◌<◌, ◌≤◌, ◌⊎◌, Bool, true, false, List, [], ◌∷◌, ◌++◌, length, map, take, drop, replicate, get_or, None, Some, refl, ap, sym, ◌∙◌, subst, inl, inr, ⊎_elim, arith}
+use Rattle.std.proofs.Common.{◌≡◌, ◌↔◌, ℕ, suc, ◌-◌, ◌<◌, ◌≤◌, ◌⊎◌, Bool, true, false, List, [], ◌∷◌, ◌++◌, length, map, take, drop, replicate, get_or, None, Some, refl, ap, sym, ◌∙◌, subst, inl, inr, ⊎_elim, arith}
 use mathlib.Core.Path.{ap₂}
 use Rattle.std.specs.Prelude.{Option}
-use Rattle.std.specs.Option.{is_some, unwrap_or}
+use Rattle.std.specs.Option.{unwrap_or}
 use Rattle.std.proofs.lemmas.List.{length-take-le, length-drop, length-append, take-append-drop, take-map, drop-map, map-append}
 use Rattle.events.specs.declared.record.EventRecord.{EventRecord}
 use Rattle.events.specs.Recording.{Recorded}
 use Rattle.events.specs.Recording.Recorded.{alike, full, added}
 use Rattle.semantics.specs.Machines.{Machine}
 use Rattle.semantics.specs.Accounts.{Account, before, value, Stable, Overflows}
-use Rattle.semantics.specs.Changes.{StableOn, Changes}
+use Rattle.semantics.specs.Changes.{StableOn}
 use Rattle.semantics.proofs.Listing.{one_more, onward}
 use Rattle.engine.specs.Recordings.{RecordedIn}
 use Rattle.engine.specs.Standing.{Tells}

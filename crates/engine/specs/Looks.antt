@@ -1,11 +1,16 @@
 -- What is seen of lines at a tick; it serves the contracts of the engine's own functions.
-use Rattle.std.specs.Prelude.{◌≡◌, ℕ, suc, ◌<◌, ◌≤◌, List, map, fold, Contains}
+use Rattle.std.specs.Prelude.{◌≡◌, ℕ, suc, ◌+◌, ◌<◌, ◌≤◌, Bool, true, false, ◌⊎◌, List, map, fold, Contains}
 use Rattle.netlist.specs.declared.kind.Kind.{Kind}
 use Rattle.values.specs.Systems.{System}
 use Rattle.gates.specs.Functions.{combined, gate_function}
-use Rattle.semantics.specs.Accounts.{Account, value, Stable}
+use Rattle.events.specs.declared.record.EventRecord.{EventRecord}
+use Rattle.semantics.specs.Accounts.{Account, value, Stable, Overflows}
 use Rattle.semantics.specs.Changes.{StableOn}
+use Rattle.semantics.specs.Circuits.{gate_of_line}
 use Rattle.semantics.specs.Machines.{Machine}
+use Rattle.semantics.specs.Moves.{taken}
+use Rattle.engine.specs.Lines.{Panel}
+use Rattle.engine.specs.Standing.{machine_of, Shows}
 use Rattle.engine.specs.declared.evaluation.Look.{Look}
 
 module _ {V M : Type 0} (meaning : V → M) (s : Machine M) (a : Account M) where
@@ -29,3 +34,16 @@ module _ {V M : Type 0} (meaning : V → M) (s : Machine M) (a : Account M) wher
     pub later : tick < after.until
     pub within : after.until ≤ before.until
     pub steady : (m : ℕ) → Contains reads m → StableOn (Stable s a m) (suc tick) after.until
+
+-- What a step of a gate comes to: its front moves on, but not beyond its goal; or a change comes for which there is no room.
+pub data Stepped {V M : Type 0} (meaning : V → M) (system : System M) (p : Panel) (a : Account M) (n goal : ℕ) (p' : Panel) (store' : List (EventRecord V)) : Bool → Type 0 where
+  onward : {until : ℕ} → a.front n < until → until ≤ goal → Shows meaning system p' store' (taken a n until) → Stepped meaning system p a n goal p' store' true
+  stopped : Overflows (machine_of system p) a n (a.front n + (gate_of_line p.circuit n).delay) → Shows meaning system p' store' a → Stepped meaning system p a n goal p' store' false
+
+-- A gate's front has moved on to its goal, or to where a change comes for which there is no room.
+pub record Followed {V M : Type 0} (meaning : V → M) (system : System M) (p : Panel) (a : Account M) (n goal : ℕ) (p' : Panel) (store' : List (EventRecord V)) : Type 0 where
+  pub front : ℕ
+  pub onward : a.front n ≤ front
+  pub within : front ≤ goal
+  pub shows : Shows meaning system p' store' (taken a n front)
+  pub stops : (front ≡ goal) ⊎ Overflows (machine_of system p) a n (front + (gate_of_line p.circuit n).delay)

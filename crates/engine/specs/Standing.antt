@@ -7,7 +7,7 @@ use Rattle.semantics.specs.CircuitMachine.{machine}
 use Rattle.semantics.specs.Logs.{Log}
 use Rattle.semantics.specs.Machines.{Machine, IsInput, IsGate, IsLine}
 use Rattle.values.specs.Systems.{System}
-use Rattle.engine.specs.Lines.{Panel, room}
+use Rattle.engine.specs.Lines.{Panel, room, extent}
 use Rattle.engine.specs.Stores.{part, seen}
 
 -- Records tell the changes of a line below a tick. First comes its base, the trim tick with the value just before it; then
@@ -36,3 +36,10 @@ module _ {V M : Type 0} (meaning : V → M) (s : System M) (p : Panel) (store : 
   pub record Stands (a : Account M) : Type 0 where
     pub log : Log (machine_of s p) a
     pub shows : Shows a
+
+-- what no call alters: the circuit, how many records each line has, and the records beyond those of the lines
+pub record Keeps {X : Type 0} (p p' : Panel) (store store' : List X) : Type 0 where
+  pub circuit : p'.circuit ≡ p.circuit
+  pub stride : p'.stride ≡ p.stride
+  pub same_length : length store' ≡ length store
+  pub beyond : drop (extent p) store' ≡ drop (extent p) store

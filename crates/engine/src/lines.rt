@@ -19,15 +19,23 @@ pub struct Lines {
 }
 
 impl Lines {
-    ghost use Rattle.std.specs.Prelude.{ℕ, ◌-◌, ◌+◌, ◌*◌, ◌<◌, ◌≤◌, ◌≢◌, min, Contains, fold, map, Decides};
+    ghost use Rattle.std.specs.Prelude.{ℕ, ◌-◌, ◌+◌, ◌*◌, ◌<◌, ◌≤◌, ◌≢◌, min, Contains, fold, map, Decides, MatchOption};
     ghost use Rattle.engine.specs.Lines.{panel, moved, settled_in, extent, last_tick, IsLineOf};
-    ghost use Rattle.semantics.specs.Circuits.{lines};
+    ghost use Rattle.semantics.specs.Circuits.{lines, gate_of_line, topology};
+    ghost use Rattle.semantics.specs.Machines.{IsGate};
 
     // Whether there is such a line.
     pub fn has(&self, line: u32) -> bool
         ensures { Decides result (IsLineOf (panel self.now) line) }
     {
         (1..=self.netlist.lines()).contains(&(line as usize))
+    }
+
+    // The row of a gate's line.
+    pub fn gate(&self, line: u32) -> Option<GateRow>
+        ensures { MatchOption result (IsGate (topology (panel self.now).circuit) line → ⊥) (λ row. IsGate (topology (panel self.now).circuit) line × (row.gate ≡ gate_of_line (panel self.now).circuit line) × (row.progress ≡ (panel self.now).progress line)) }
+    {
+        self.netlist.row(line)
     }
 
     // How far a line has come.

@@ -1,5 +1,5 @@
 // The records of a session's lines.
-ghost use Rattle.std.specs.Prelude.{◌≡◌, ◌-◌, ◌*◌, ◌<◌, ◌∷◌, length, suc, take, drop};
+ghost use Rattle.std.specs.Prelude.{◌≡◌, ◌↔◌, ◌-◌, ◌*◌, ◌<◌, ◌∷◌, length, suc, take, drop, None};
 ghost use Rattle.std.specs.Option.{unwrap_or};
 ghost use Rattle.engine.specs.Lines.{panel, Holds, IsLineOf};
 ghost use Rattle.engine.specs.Recordings.{RecordedIn};
@@ -63,9 +63,13 @@ pub(crate) fn record<V: ValueSystem>(
     requires a_line { IsLineOf (panel lines.now) line }
     requires holds { Holds (panel lines.now) store.old }
     ensures only_there { OnlyThere ((line - 1) * lines.now.stride) lines.now.stride store.old store.new }
+    ensures refused { result ≡ None → store.new ≡ store.old }
     ensures recorded { RecordedIn V.Alike ((panel lines.now).progress line).kept (record { tick = tick; value = value }) (part lines.now.stride line store.old) result (part lines.now.stride line store.new) }
     ensures fits { unwrap_or result ((panel lines.now).progress line).kept < lines.now.stride }
+    ensures alike_is_same { (x y : V) → V.Alike x y ↔ (V.meaning x ≡ V.meaning y) }
 {
+    // Lists compare elements, and SAME promises that so are meanings.
+    value.same(value);
     let place = lines.place(line);
     let kept = lines.progress(line).kept;
     record_in(&mut store[place..place + lines.stride], kept, tick, value)

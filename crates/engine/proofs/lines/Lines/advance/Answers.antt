@@ -1,6 +1,4 @@
-use Rattle.std.proofs.Common.{◌≡◌, ℕ, ◌+◌, ◌-◌, ◌<◌, ◌≤◌, length-set, refl, ap, sym, ◌∙◌, arith}
-use Rattle.netlist.specs.Closed.{circuit}
-use Rattle.engine.specs.Lines.{Panel, panel}
+use Rattle.std.proofs.Common.{◌-◌, length-set, refl, ◌∙◌, arith}
 use Rattle.engine.proofs.Advancing.{input_moved, gate_moved, still_fit}
 use Rattle.engine.proofs.lines.Lines.advance.Goals as goal
 

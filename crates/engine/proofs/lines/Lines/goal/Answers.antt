@@ -1,4 +1,4 @@
-use Rattle.std.proofs.Common.{◌≡◌, ℕ, ◌<◌, length, map, take, min, get_or, ap, sym, ◌∙◌, subst, arith, Contains}
+use Rattle.std.proofs.Common.{map, take, min, get_or, ap, ◌∙◌, subst, arith, Contains}
 use Rattle.std.specs.Prelude.{fold}
 use Rattle.std.proofs.lemmas.List.Elements.{Contains-get_or}
 use Rattle.engine.specs.Lines.{panel, settled_in, last_tick}

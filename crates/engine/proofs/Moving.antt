@@ -1,0 +1,79 @@
+-- One line comes further, and its records are written: what lines and their records show then.
+use Rattle.std.proofs.Common.{◌≡◌, ℕ, ◌-◌, ◌*◌, ◌<◌, List, map, drop, ap, sym, ◌∙◌, subst, ⊎_elim, arith}
+use mathlib.Core.Path.{ap₂}
+use Rattle.std.proofs.lemmas.Bool.{cases_eq}
+use Rattle.events.specs.declared.record.EventRecord.{EventRecord}
+use Rattle.netlist.specs.declared.progress.Progress.{Progress}
+use Rattle.semantics.specs.Accounts.{Account, settled}
+use Rattle.semantics.specs.Circuits.{lines, topology}
+use Rattle.semantics.specs.Machines.{Machine, IsInput, IsGate, IsLine}
+use Rattle.semantics.specs.Moves.{put}
+use Rattle.semantics.proofs.Putting.{put_here, put_there}
+use Rattle.semantics.proofs.Wiring.{input_range, gate_range, line_range}
+use Rattle.values.specs.Systems.{System}
+use Rattle.engine.specs.Lines.{Panel, moved, extent}
+use Rattle.engine.specs.Standing.{Tells, machine_of, Shows, Keeps}
+use Rattle.engine.specs.Stores.{part, seen, OnlyThere}
+use Rattle.engine.proofs.Parts.{part_else, later, ends_within}
+
+-- lines are numbered from 1
+pub positive : (p : Panel) (n : ℕ) → IsLine (topology p.circuit) n → 0 < n
+positive p n line = ⊎_elim (λ an_input. let r = input_range p.circuit n an_input in omega (arith, r.0)) (λ a_gate. let r = gate_range p.circuit n a_gate in omega (arith, r.0)) line
+
+module _ {V M : Type 0} (meaning : V → M) (system : System M) (p : Panel) (old new : List (EventRecord V)) (a b : Account M) (n : ℕ) (x : Progress) (h : Shows meaning system p old a) (line : IsLine (topology p.circuit) n) (there : OnlyThere ((n - 1) * p.stride) p.stride old new) where
+  abbrev s : Machine M
+  s = machine_of system p
+
+  -- the other lines stay as they are told
+  pub record Others : Type 0 where
+    pub trim : a.trim ≡ b.trim
+    pub ends : (m : ℕ) → (m ≡ n → ⊥) → a.end m ≡ b.end m
+    pub fronts : (m : ℕ) → (m ≡ n → ⊥) → a.front m ≡ b.front m
+    pub records : (m kept : ℕ) (rs : List (ℕ × M)) → IsLine s.topology m → (m ≡ n → ⊥) → Tells s system.start a m (settled s.topology a m) kept rs → Tells s system.start b m (settled s.topology b m) kept rs
+
+  pub record Here : Type 0 where
+    pub ends : IsInput s.topology n → x.tick ≡ b.end n
+    pub fronts : IsGate s.topology n → x.tick ≡ b.front n
+    pub records : Tells s system.start b n (settled s.topology b n) x.kept (map (seen meaning) (part p.stride n new))
+
+  pub shows_moved : Here → Others → Shows meaning system (moved p n x) new b
+  shows_moved here others = record {
+    trim = h.trim ∙ others.trim;
+    ends = λ m an_input. ⊎_elim (λ is. at_end m is an_input) (λ other. ap (λ (q : Progress). q.tick) (put_there p.progress n x m other) ∙ (h.ends m an_input ∙ others.ends m other)) (cases_eq m n);
+    fronts = λ m a_gate. ⊎_elim (λ is. at_front m is a_gate) (λ other. ap (λ (q : Progress). q.tick) (put_there p.progress n x m other) ∙ (h.fronts m a_gate ∙ others.fronts m other)) (cases_eq m n);
+    records = λ m a_line. ⊎_elim (λ is. at_records m is) (λ other. else_records m a_line other) (cases_eq m n);
+  }
+    where
+      at_end : (m : ℕ) → m ≡ n → IsInput s.topology m → (put p.progress n x m).tick ≡ b.end m
+      at_end m is an_input = subst (λ k. IsInput s.topology k → (put p.progress n x k).tick ≡ b.end k) (sym is) (λ i. ap (λ (q : Progress). q.tick) (put_here p.progress n x) ∙ here.ends i) an_input
+
+      at_front : (m : ℕ) → m ≡ n → IsGate s.topology m → (put p.progress n x m).tick ≡ b.front m
+      at_front m is a_gate = subst (λ k. IsGate s.topology k → (put p.progress n x k).tick ≡ b.front k) (sym is) (λ g. ap (λ (q : Progress). q.tick) (put_here p.progress n x) ∙ here.fronts g) a_gate
+
+      at_records : (m : ℕ) → m ≡ n → Tells s system.start b m (settled s.topology b m) (put p.progress n x m).kept (map (seen meaning) (part p.stride m new))
+      at_records m is =
+          subst (λ k. Tells s system.start b k (settled s.topology b k) (put p.progress n x k).kept (map (seen meaning) (part p.stride k new))) (sym is)
+          (subst (λ (q : Progress). Tells s system.start b n (settled s.topology b n) q.kept (map (seen meaning) (part p.stride n new))) (sym (put_here p.progress n x)) here.records)
+
+      else_records : (m : ℕ) → IsLine s.topology m → (m ≡ n → ⊥) → Tells s system.start b m (settled s.topology b m) (put p.progress n x m).kept (map (seen meaning) (part p.stride m new))
+      else_records m a_line other =
+          subst (λ (q : Progress). Tells s system.start b m (settled s.topology b m) q.kept (map (seen meaning) (part p.stride m new))) (sym (put_there p.progress n x m other))
+          (subst (λ rs. Tells s system.start b m (settled s.topology b m) (p.progress m).kept (map (seen meaning) rs)) (sym (part_else p.stride n old new (positive p n line) there m (positive p m a_line) other))
+          (others.records m (p.progress m).kept (map (seen meaning) (part p.stride m old)) a_line other (h.records m a_line)))
+
+-- what no call alters stays where one line moves
+pub keeps_moved : {X : Type 0} (p q : Panel) (n : ℕ) (x : Progress) (old new : List X) → q ≡ moved p n x → IsLine (topology p.circuit) n → OnlyThere ((n - 1) * p.stride) p.stride old new → Keeps p q old new
+keeps_moved p q n x old new same line there = record {
+  circuit = ap (λ (o : Panel). o.circuit) same;
+  stride = ap (λ (o : Panel). o.stride) same;
+  same_length = there.same_length;
+  beyond = later p.stride n old new (positive p n line) there (extent p) (ends_within p.stride (lines p.circuit) n (positive p n line) (line_range p.circuit n line));
+}
+
+pub keeps_on : {X : Type 0} (p q r : Panel) (old mid new : List X) → Keeps p q old mid → Keeps q r mid new → Keeps p r old new
+keeps_on p q r old mid new first second = record {
+  circuit = second.circuit ∙ first.circuit;
+  stride = second.stride ∙ first.stride;
+  same_length = second.same_length ∙ first.same_length;
+  beyond = subst (λ e. drop e new ≡ drop e mid) (ap₂ (λ c k. lines c * k) first.circuit first.stride) second.beyond ∙ first.beyond;
+}

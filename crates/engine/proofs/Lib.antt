@@ -1,13 +1,16 @@
 pub mod Advancing
 pub mod Books
+pub mod Choosing
 pub mod Folding
 pub mod Following
 pub mod Least
+pub mod Motions
 pub mod Moving
 pub mod Parts
 pub mod Reading
 pub mod Recordings
 pub mod Retelling
+pub mod Runs
 pub mod Stepping
 pub mod Takes
 pub mod Telling

@@ -15,7 +15,7 @@ use Rattle.semantics.specs.Changes.{Changes}
 use Rattle.engine.specs.Looks.{Glanced}
 use Rattle.engine.specs.Stores.{seen}
 use Rattle.engine.specs.Standing.{Tells}
-use Rattle.engine.proofs.Reading.{Splits, ticks_rise, stable_after, before_at}
+use Rattle.engine.proofs.Reading.{Splits, ticks_rise, ticks_below, stable_after, before_at}
 
 -- records tell the changes at some ticks
 module _ {V M : Type 0} (meaning : V → M) (v : ℕ → M) (changes : List (EventRecord V)) (ts : List ℕ) (told : map (seen meaning) changes ≡ map (λ t. (t, v t)) ts) where
@@ -49,6 +49,9 @@ module _ {V M : Type 0} (meaning : V → M) (s : Machine M) (filler : M) (a : Ac
   changes_told : map (seen meaning) changes ≡ map (λ t. (t, value s a n t)) h.ticks
   changes_told = ap (drop 1) told
 
+  pub events_as_many : length changes ≡ kept
+  events_as_many = as_many meaning (value s a n) changes h.ticks changes_told ∙ h.count
+
   pub in_order : IsNonDecreasingBy (λ change. change.tick) changes
   in_order = rising meaning (value s a n) changes h.ticks changes_told h.changes
 
@@ -62,6 +65,13 @@ module _ {V M : Type 0} (meaning : V → M) (s : Machine M) (filler : M) (a : Ac
   value_told u count d reaches within parts few =
       sym (get_or-map (λ (r : EventRecord V). meaning r.value) (base ∷ changes) count d (before s a n a.trim) (omega arith))
       ∙ (ap (λ l. get_or l count (before s a n a.trim)) meanings_told ∙ sym (before_at s a n u count reaches within h.changes parts))
+
+  -- the last of all tells the value just before the tick up to which they are told
+  pub last_told : (d : EventRecord V) → a.trim ≤ to → meaning (get_or (base ∷ changes) (length changes) d).value ≡ before s a n to
+  last_told d reaches = value_told to (length changes) d reaches (omega arith) all (omega arith)
+    where
+      all : Splits h.ticks to (length changes)
+      all = record { within = omega (arith, events_as_many, h.count); first = λ i d below. ticks_below h.changes i d (omega (arith, events_as_many, h.count)); others = λ i d from below. absurd (omega (arith, events_as_many, h.count)) }
 
   module _ (tick limit : ℕ) (around : Around V) (until : ℕ) (before_limit : tick < limit) (settled : limit ≤ to) (found : AreAround base changes tick around) where
     parts : Splits h.ticks (suc tick) found.count

@@ -1,6 +1,7 @@
 pub mod Answers
 pub mod Lines
 pub mod Looks
+pub mod Orders
 pub mod Progresses
 pub mod Recordings
 pub mod Standing

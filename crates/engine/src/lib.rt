@@ -4,4 +4,5 @@
 mod evaluation;
 mod lines;
 mod records;
+mod running;
 mod taking;

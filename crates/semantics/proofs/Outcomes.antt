@@ -3,10 +3,10 @@ use Rattle.std.proofs.Common.{◌≡◌, ℕ, ◌+◌, ◌<◌, ◌≤◌, ◌�
 use Rattle.std.proofs.lemmas.Bool.{cases_order}
 use Rattle.semantics.specs.Machines.{Machine}
 use Rattle.semantics.specs.Accounts.{Account, goal, Overflows}
-use Rattle.semantics.specs.Moves.{taken, CanTake, Takeable, ComesFirst, Rest}
+use Rattle.semantics.specs.Moves.{taken, CanTake, CanMove, ComesFirst, Rest}
 use Rattle.semantics.specs.Logs.{Ending, Takes, Run}
 use Rattle.semantics.proofs.Listing.{no_room}
-use Rattle.semantics.proofs.Resting.{resting}
+use Rattle.semantics.proofs.Resting.{resting, no_rest}
 
 module _ {M : Type 0} (s : Machine M) where
   -- no take stops before another take of the gate
@@ -55,12 +55,12 @@ module _ {M : Type 0} (s : Machine M) where
   ends_same {a = a} {d = d} one other same = one_end one (subst (λ x. Takes s x a d) (sym same) other)
 
   -- a run that ends at rest and one that has work left are not from one account
-  not_both_ends : {most count : ℕ} {a b d : Account M} (n : ℕ) → Takes s count a b → count ≤ most → Rest s b → Takes s most a d → Takeable s d n → ⊥
+  not_both_ends : {most count : ℕ} {a b d : Account M} (n : ℕ) → Takes s count a b → count ≤ most → Rest s b → Takes s most a d → CanMove s d n → ⊥
   not_both_ends {most = most} {count = count} {b = b} {d = d} n one within rest other left =
       let no_fewer = no_more one rest other in
       let same : b ≡ d = ends_same one other (omega arith) in
-      let still : Takeable s b n = subst (λ x. Takeable s x n) (sym same) left in
-      resting s b n (rest n still.can.a_gate) still
+      let still : CanMove s b n = subst (λ x. CanMove s x n) (sym same) left in
+      no_rest s b n (rest n still.a_gate) still
 
   pub one_run : {most count other : ℕ} {ending otherwise : Ending} {a b d : Account M} → Run s most a b count ending → Run s most a d other otherwise → (b ≡ d) × (count ≡ other) × (ending ≡ otherwise)
   one_run (Run.to_rest {count = k} one within rest) (Run.to_rest {count = j} other within' rest') =

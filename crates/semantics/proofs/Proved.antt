@@ -1,5 +1,5 @@
 -- The laws, for the rule of circuits.
-use Rattle.std.proofs.Common.{◌≡◌, ℕ, suc, ◌+◌, ◌*◌, refl, arith}
+use Rattle.std.proofs.Common.{◌≡◌, ℕ, suc, ◌+◌, ◌*◌, refl, ⊎_elim, arith}
 use Rattle.netlist.specs.Gates.{Circuit}
 use Rattle.netlist.specs.Judging.{AllReached}
 use Rattle.netlist.specs.Walks.{Reached}
@@ -20,7 +20,7 @@ use Rattle.semantics.proofs.Listing.{one_list}
 use Rattle.semantics.proofs.Outcomes.{one_front, one_run}
 use Rattle.semantics.proofs.Ranking.{settled_most}
 use Rattle.semantics.proofs.Reaching.{outcome, comes_to_rest}
-use Rattle.semantics.proofs.Resting.{resting, rests_or_moves, rest_is_where_none}
+use Rattle.semantics.proofs.Resting.{resting, no_rest, can_move, rests_or_moves, rest_is_where_none}
 use Rattle.semantics.proofs.Ruling.{begins, obeys, only_initials, only_values, rule_carries, rule_local}
 use Rattle.semantics.proofs.Settling.{settled_is_distance}
 use Rattle.semantics.proofs.Tying.{lines_tied}
@@ -60,6 +60,8 @@ module _ {M : Type 0} (s : System M) (c : Circuit) where
     gates_rest_or_can_be_taken a log n a_gate = record {
       one_of_both = λ told. rests_or_moves (machine s c room) a (held a log) n a_gate told (sound c wired);
       not_both = resting (machine s c room) a n;
+      moves = can_move (machine s c room) a n;
+      moves_so = λ told moves. ⊎_elim (λ rests. absurd (no_rest (machine s c room) a n rests moves)) (λ able. able) (rests_or_moves (machine s c room) a (held a log) n a_gate told (sound c wired));
     }
 
     pub rest_is_where_no_gate_can_be_taken : ((x y : M) → Dec (x ≡ y)) → RestIsWhereNoGateCanBeTaken (machine s c room)

@@ -12,7 +12,7 @@ use Rattle.semantics.proofs.Invariants.{Invariant}
 use Rattle.semantics.proofs.Keeping.{take_goes}
 use Rattle.semantics.proofs.Putting.{put_here, put_grows}
 use Rattle.semantics.proofs.Locality.{Sound}
-use Rattle.semantics.proofs.Resting.{resting, rests_or_moves}
+use Rattle.semantics.proofs.Resting.{resting, rests_or_moves, can_move}
 use Rattle.semantics.proofs.Sums.{total, total_more}
 
 module _ {M : Type 0} (s : Machine M) (sound : Sound s.topology) (size : ℕ) (within : (n : ℕ) → IsGate s.topology n → n < size) where
@@ -127,7 +127,7 @@ module _ {M : Type 0} (s : Machine M) (sound : Sound s.topology) (size : ℕ) (w
 
     pub outcome : (most : ℕ) (a : Account M) → Invariant s a → Outcome s most a
     outcome zero a h = ⊎_elim (λ rest. record { end = a; count = 0; ending = Ending.rest; run = Run.to_rest Takes.none (omega arith) rest })
-        (λ f. record { end = a; count = 0; ending = Ending.more; run = Run.to_count Takes.none f.comes.can }) (next a h)
+        (λ f. record { end = a; count = 0; ending = Ending.more; run = Run.to_count Takes.none (can_move s a f.line f.comes.can) }) (next a h)
     outcome (suc most) a h = ⊎_elim (λ rest. record { end = a; count = 0; ending = Ending.rest; run = Run.to_rest Takes.none (omega arith) rest })
         (λ f. prefixed f (outcome most (one_take a f) (held_on a h f)).run) (next a h)
 

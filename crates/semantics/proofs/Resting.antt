@@ -5,7 +5,7 @@ use Rattle.semantics.specs.Machines.{Machine, IsGate}
 use Rattle.semantics.specs.Changes.{StableOn, AtMost}
 use Rattle.semantics.specs.Accounts.{Account, goal, Stable, Overflows}
 use Rattle.semantics.specs.Laws.{ToldOnTheWay}
-use Rattle.semantics.specs.Moves.{Takeable, Rests, Rest}
+use Rattle.semantics.specs.Moves.{CanMove, Takeable, Rests, Rest}
 use Rattle.semantics.proofs.Goals.{settled_gate, goal_attained}
 use Rattle.semantics.proofs.Listing.{no_room, onward, one_more}
 use Rattle.semantics.proofs.Invariants.{Invariant}
@@ -18,6 +18,17 @@ module _ {M : Type 0} (s : Machine M) (a : Account M) where
       let can = able.can in
       let onward = can.onward in
       no_room (a.front n + s.topology.lag n) over.from_trim over.changes over.room_is_full (omega arith) can.fits
+
+  -- a front that can move does not rest, and that of a gate that can be taken can move
+  pub no_rest : (n : ℕ) → Rests s a n → CanMove s a n → ⊥
+  no_rest n (Rests.idle at_goal) moves = omega (arith, moves.below)
+  no_rest n (Rests.full below over) moves = moves.room over
+
+  pub can_move : (n : ℕ) → Takeable s a n → CanMove s a n
+  can_move n able =
+      let can = able.can in
+      let below : a.front n < goal s.topology a n = omega (arith, can.onward, can.not_beyond) in
+      record { a_gate = can.a_gate; below = below; room = λ over. resting n (Rests.full below over) able }
 
   -- how far a gate has come on its way from its front
   data Reached (n at : ℕ) : Type 0 where

@@ -15,6 +15,7 @@ use Rattle.semantics.specs.Worked.{pulse, pulse_and_on, latch, bits, given, AtRe
 use Rattle.semantics.proofs.Comparing.{equal_bits, equal_values, same_values}
 use Rattle.semantics.proofs.Proved.{held as invariants}
 use Rattle.semantics.proofs.Settling.{overfull}
+use Rattle.semantics.proofs.Resting.{can_move}
 use Rattle.semantics.proofs.Testing.{can_take, can_trim, overflows, listed_to, at_rest, begun, then_feed, then_hold, then_take, then_trim, then_run, each_take, run_to_rest, takeable}
 use Rattle.semantics.proofs.Wiring.{input_range}
 
@@ -157,7 +158,7 @@ front_ahead = record {
   log = ahead_log;
   rests = record { log = then_run equal_bits two_valued pulse 2 ahead_log ahead_run; rest = at_rest equal_bits two_valued pulse 2 caught_up refl };
   short_run =
-      Run.to_count (each_take equal_bits two_valued pulse 2 ahead ((3, 7) ∷ (2, 20) ∷ []) refl) (takeable equal_bits two_valued pulse 2 (taken (taken ahead 3 7) 2 20) 3 20 refl);
+      Run.to_count (each_take equal_bits two_valued pulse 2 ahead ((3, 7) ∷ (2, 20) ∷ []) refl) (can_move (bits 2) (taken (taken ahead 3 7) 2 20) 3 (takeable equal_bits two_valued pulse 2 (taken (taken ahead 3 7) 2 20) 3 20 refl));
 }
 
 -- in three values

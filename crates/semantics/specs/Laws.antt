@@ -9,7 +9,7 @@ use Rattle.semantics.specs.Comparisons.{Stays, Alike, Agree, GivenTied, LinesTie
 use Rattle.semantics.specs.Computed.{initial, value}
 use Rattle.semantics.specs.Distances.{Distance}
 use Rattle.semantics.specs.Logs.{Ending, Run, Steps, Log}
-use Rattle.semantics.specs.Moves.{CanTake, Takeable, Rests, Rest}
+use Rattle.semantics.specs.Moves.{CanTake, CanMove, Takeable, Rests, Rest}
 use Rattle.semantics.specs.Machines.{IsInput, IsGate, IsLine, Machine}
 use Rattle.semantics.specs.Rules.{Begins, Obeys}
 
@@ -48,10 +48,12 @@ module _ {M : Type 0} (s : Machine M) where
   abbrev pub ToldOnTheWay : Account M → ℕ → Type 0
   ToldOnTheWay a n = (t : ℕ) → settled s.topology a n ≤ t → t < goal s.topology a n + s.topology.lag n → Dec (Stable s a n t)
 
-  -- A gate rests or can be taken, if that can be told; and not both.
+  -- A gate rests or can be taken, if that can be told; and not both. It can be taken just where its front can move.
   pub record EitherRestsOrMoves (a : Account M) (n : ℕ) : Type 0 where
     pub one_of_both : ToldOnTheWay a n → Rests s a n ⊎ Takeable s a n
     pub not_both : Rests s a n → Takeable s a n → ⊥
+    pub moves : Takeable s a n → CanMove s a n
+    pub moves_so : ToldOnTheWay a n → CanMove s a n → Takeable s a n
 
   abbrev pub GatesRestOrCanBeTaken : Type 0
   GatesRestOrCanBeTaken = (a : Account M) → Log s a → (n : ℕ) → IsGate s.topology n → EitherRestsOrMoves a n

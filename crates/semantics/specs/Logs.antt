@@ -2,7 +2,7 @@
 use Rattle.std.specs.Prelude.{ℕ, zero, suc, ◌≤◌}
 use Rattle.semantics.specs.Machines.{Machine}
 use Rattle.semantics.specs.Accounts.{Account}
-use Rattle.semantics.specs.Moves.{made, fed, held, taken, trimmed, CanFeed, CanHold, CanTake, CanTrim, Takeable, ComesFirst, Rest}
+use Rattle.semantics.specs.Moves.{made, fed, held, taken, trimmed, CanFeed, CanHold, CanTake, CanTrim, CanMove, ComesFirst, Rest}
 
 -- whether a run ended at rest, or more can be taken
 pub data Ending : Type 0 where
@@ -15,11 +15,11 @@ module _ {M : Type 0} (s : Machine M) where
     none : {a : Account M} → Takes zero a a
     one_more : {k n front : ℕ} {a b : Account M} → ComesFirst s a n → CanTake s a n front → Takes k (taken a n front) b → Takes (suc k) a b
 
-  -- A run makes takes until no gate can be taken, or until it has made the most that it was asked for. It tells how many it
-  -- made, and how it ended.
+  -- A run makes takes until no gate can be taken, or until it has made the most that it was asked for and some front can still
+  -- move. It tells how many it made, and how it ended.
   pub data Run (most : ℕ) (a b : Account M) : ℕ → Ending → Type 0 where
     to_rest : {count : ℕ} → Takes count a b → count ≤ most → Rest s b → Run most a b count rest
-    to_count : {n : ℕ} → Takes most a b → Takeable s b n → Run most a b most more
+    to_count : {n : ℕ} → Takes most a b → CanMove s b n → Run most a b most more
 
   -- one accepted call
   pub data Step (a : Account M) : Account M → Type 0 where

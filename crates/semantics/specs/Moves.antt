@@ -59,6 +59,12 @@ module _ {M : Type 0} where
       pub front : ℕ
       pub can : CanTake n front
 
+    -- The gate's front can move: it is below its goal, and what comes next is no change for which there is no room.
+    pub record CanMove (n : ℕ) : Type 0 where
+      pub a_gate : IsGate s.topology n
+      pub below : a.front n < goal s.topology a n
+      pub room : Overflows s a n (a.front n + s.topology.lag n) → ⊥
+
     -- of the gates that can be taken, it is the one of the smallest front, and of those the smallest line
     pub record ComesFirst (n : ℕ) : Type 0 where
       pub can : Takeable n

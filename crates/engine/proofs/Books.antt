@@ -14,7 +14,7 @@ use Rattle.semantics.specs.Machines.{IsGate, IsLine}
 use Rattle.semantics.proofs.Closed.{wired, all_reached}
 use Rattle.semantics.proofs.Goals.{settled_input, settled_gate, goal_attained}
 use Rattle.semantics.proofs.Proved.{logs_are_in_order, settled_times_are_bounded}
-use Rattle.semantics.proofs.Wiring.{gate_range, input_range, gate_reads, sound}
+use Rattle.semantics.proofs.Wiring.{a_line, line_range, gate_range, input_range, gate_reads, sound}
 use Rattle.values.specs.Systems.{System}
 use Rattle.engine.specs.declared.lines.Lines.{Lines}
 use Rattle.engine.specs.Lines.{Panel, panel, settled_in, last_tick}
@@ -74,3 +74,17 @@ module _ {V M : Type 0} (meaning : V → M) (system : System M) (p : Panel) (sto
         ap (fold min last_tick) (same_each (settled_in p) (settled (topology p.circuit) a) ms (λ m read. settled_told h.shows m ((sound p.circuit is.wired).reads_lines n m a_gate (subst (λ ns. Contains ns m) (sym same) read))))
         ∙ (told_least last_tick (settled (topology p.circuit) a) ms (subst (λ ns. 0 < length ns) same (gate_reads p.circuit is.wired n a_gate)) (λ m read. let b = bounded m in omega arith)
         ∙ ap (λ ns. least (map (settled (topology p.circuit) a) ns)) (sym same))
+
+    -- settled times are told exactly
+    pub settled_exact : (m : ℕ) → IsLine (topology p.circuit) m → min (settled_in p m) last_tick ≡ settled (topology p.circuit) a m
+    settled_exact m line = let b = bounded m in let e = settled_told h.shows m line in let small : settled (topology p.circuit) a m ≤ last_tick = omega arith in ap (λ t. min t last_tick) e ∙ whole (settled (topology p.circuit) a m) small
+      where
+        whole : (t : ℕ) → t ≤ last_tick → min t last_tick ≡ t
+        whole t small = grind arith
+
+-- what a test whether there is such a line tells
+pub line_of : (p : Panel) (n : ℕ) → (0 < n) × (n ≤ lines p.circuit) → IsLine (topology p.circuit) n
+line_of p n range = a_line p.circuit n range.0 range.1
+
+pub of_line : (p : Panel) (n : ℕ) → IsLine (topology p.circuit) n → (0 < n) × (n ≤ lines p.circuit)
+of_line p n line = (⊎_elim (λ an_input. let r = input_range p.circuit n an_input in omega (arith, r.0)) (λ a_gate. let r = gate_range p.circuit n a_gate in omega (arith, r.0)) line, line_range p.circuit n line)

@@ -22,7 +22,7 @@ module _ {V M : Type 0} (meaning : V → M) (v : ℕ → M) (changes : List (Eve
   pub as_many : length changes ≡ length ts
   as_many = sym (length-map changes (seen meaning)) ∙ (ap length told ∙ length-map ts (λ t. (t, v t)))
 
-  each : (i : ℕ) (d : EventRecord V) (e : ℕ) → i < length changes → seen meaning (get_or changes i d) ≡ (get_or ts i e, v (get_or ts i e))
+  pub each : (i : ℕ) (d : EventRecord V) (e : ℕ) → i < length changes → seen meaning (get_or changes i d) ≡ (get_or ts i e, v (get_or ts i e))
   each i d e within =
       sym (get_or-map (seen meaning) changes i d (seen meaning d) within)
       ∙ (ap (λ l. get_or l i (seen meaning d)) told ∙ get_or-map (λ t. (t, v t)) ts i e (seen meaning d) (omega (arith, as_many)))
@@ -46,7 +46,7 @@ module _ {V M : Type 0} (meaning : V → M) (s : Machine M) (filler : M) (a : Ac
   told : map (seen meaning) (base ∷ changes) ≡ (a.trim, before s a n a.trim) ∷ map (λ t. (t, value s a n t)) h.ticks
   told = ap (map (seen meaning)) events ∙ (sym (take-map (seen meaning) (suc kept) part) ∙ h.shown)
 
-  changes_told : map (seen meaning) changes ≡ map (λ t. (t, value s a n t)) h.ticks
+  pub changes_told : map (seen meaning) changes ≡ map (λ t. (t, value s a n t)) h.ticks
   changes_told = ap (drop 1) told
 
   pub events_as_many : length changes ≡ kept

@@ -1,17 +1,22 @@
 -- What the calls of a session answer, and what account it stands for then.
-use Rattle.std.specs.Prelude.{◌≡◌, ℕ, ◌+◌, ◌<◌, Ok, Err, Result}
+use Rattle.std.specs.Prelude.{◌≡◌, ℕ, ◌+◌, ◌<◌, ◌≤◌, List, length, slice_get, Ok, Err, Result, Some}
 use Rattle.netlist.specs.declared.refusal.Refusal.{Refusal}
 use Rattle.netlist.specs.Refusals.{number}
-use Rattle.semantics.specs.Accounts.{Account, goal, Overflows}
+use Rattle.semantics.specs.Accounts.{Account, settled, goal, value, KeptChanges, Overflows}
 use Rattle.semantics.specs.Logs as Logs
 use Rattle.engine.specs.declared.running.Ending.{Ending}
-use Rattle.semantics.specs.Machines.{Machine, IsGate}
+use Rattle.semantics.specs.Machines.{Machine, IsGate, IsLine}
 use Rattle.semantics.specs.Moves.{taken, CanTake}
 
 -- an answer with the number of its refusal
 abbrev pub numbered : {X : Type 0} → Result X Refusal → Result X ℕ
 numbered (Ok x) = Ok x
 numbered (Err r) = Err (number r)
+
+-- an answer with what is seen of its value, or the number of its refusal
+abbrev pub answered : {X Y : Type 0} → (X → Y) → Result X Refusal → Result Y ℕ
+answered see (Ok x) = Ok (see x)
+answered see (Err r) = Err (number r)
 
 module _ {M : Type 0} (s : Machine M) (a : Account M) where
   -- taking a gate answers how far its line is settled then
@@ -25,3 +30,22 @@ module _ {M : Type 0} (s : Machine M) (a : Account M) where
 abbrev pub ending_of : Ending → Logs.Ending
 ending_of Ending.Rest = Logs.Ending.rest
 ending_of Ending.More = Logs.Ending.more
+
+module _ {M : Type 0} (s : Machine M) (a : Account M) where
+  -- the value of a line at a tick, from the trim tick on and below the line's settled time
+  pub data Valued (n t : ℕ) : Result M ℕ → Type 0 where
+    no_line : (IsLine s.topology n → ⊥) → Valued n t (Err 12)
+    past : IsLine s.topology n → t < a.trim → Valued n t (Err 13)
+    unsettled : IsLine s.topology n → a.trim ≤ t → settled s.topology a n ≤ t → Valued n t (Err 15)
+    told : IsLine s.topology n → a.trim ≤ t → t < settled s.topology a n → Valued n t (Ok (value s a n t))
+
+  -- a kept change of a line, counted from 0: its tick, and the value from there on
+  pub data Eventful (n k : ℕ) : Result (ℕ × M) ℕ → Type 0 where
+    no_line : (IsLine s.topology n → ⊥) → Eventful n k (Err 12)
+    none_such : {ticks : List ℕ} → IsLine s.topology n → KeptChanges s a n ticks → length ticks ≤ k → Eventful n k (Err 18)
+    told : {ticks : List ℕ} {t : ℕ} → IsLine s.topology n → KeptChanges s a n ticks → slice_get ticks k ≡ Some t → Eventful n k (Ok (t, value s a n t))
+
+  -- how far a line is settled, and how many changes of it are kept
+  pub data Stated (n : ℕ) : Result (ℕ × ℕ) ℕ → Type 0 where
+    no_line : (IsLine s.topology n → ⊥) → Stated n (Err 12)
+    told : {ticks : List ℕ} → IsLine s.topology n → KeptChanges s a n ticks → Stated n (Ok (settled s.topology a n, length ticks))

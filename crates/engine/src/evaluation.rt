@@ -21,7 +21,7 @@ pub(crate) struct Look<V> {
 }
 
 // What a line shows at a tick, and how long, up to a limit.
-fn glance<V: ValueSystem>(
+pub(crate) fn glance<V: ValueSystem>(
     lines: &Lines,
     store: &[EventRecord<V>],
     line: u32,

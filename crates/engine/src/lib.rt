@@ -1,6 +1,7 @@
 // The simulator: sessions on closed netlists, in any value system.
 #![tactic(auto)]
 
+mod asking;
 mod evaluation;
 mod lines;
 mod records;

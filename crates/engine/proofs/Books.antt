@@ -82,6 +82,10 @@ module _ {V M : Type 0} (meaning : V → M) (system : System M) (p : Panel) (sto
         whole : (t : ℕ) → t ≤ last_tick → min t last_tick ≡ t
         whole t small = grind arith
 
+    -- every line is settled to the trim tick at least
+    pub trim_reached : (m : ℕ) → IsLine (topology p.circuit) m → a.trim ≤ settled (topology p.circuit) a m
+    trim_reached m line = ⊎_elim (λ an_input. let r = in_order.trim_within_ends m an_input in omega (arith, settled_input (topology p.circuit) a m an_input)) (λ a_gate. let r = in_order.trim_within_fronts m a_gate in omega (arith, settled_gate (topology p.circuit) a m a_gate)) line
+
 -- what a test whether there is such a line tells
 pub line_of : (p : Panel) (n : ℕ) → (0 < n) × (n ≤ lines p.circuit) → IsLine (topology p.circuit) n
 line_of p n range = a_line p.circuit n range.0 range.1

@@ -3,6 +3,7 @@ pub mod Books
 pub mod Choosing
 pub mod Folding
 pub mod Following
+pub mod Gifts
 pub mod Least
 pub mod Motions
 pub mod Moving

@@ -2,11 +2,12 @@
 use Rattle.std.specs.Prelude.{◌≡◌, ℕ, ◌+◌, ◌<◌, ◌≤◌, List, length, slice_get, Ok, Err, Result, Some}
 use Rattle.netlist.specs.declared.refusal.Refusal.{Refusal}
 use Rattle.netlist.specs.Refusals.{number}
-use Rattle.semantics.specs.Accounts.{Account, settled, goal, value, KeptChanges, Overflows}
+use Rattle.semantics.specs.Accounts.{Account, settled, goal, value, Stable, KeptChanges, Overflows}
+use Rattle.semantics.specs.Changes.{AtMost}
 use Rattle.semantics.specs.Logs as Logs
 use Rattle.engine.specs.declared.running.Ending.{Ending}
-use Rattle.semantics.specs.Machines.{Machine, IsGate, IsLine}
-use Rattle.semantics.specs.Moves.{taken, CanTake}
+use Rattle.semantics.specs.Machines.{Machine, IsInput, IsGate, IsLine}
+use Rattle.semantics.specs.Moves.{fed, held, taken, CanFeed, CanHold, CanTake}
 
 -- an answer with the number of its refusal
 abbrev pub numbered : {X : Type 0} → Result X Refusal → Result X ℕ
@@ -49,3 +50,19 @@ module _ {M : Type 0} (s : Machine M) (a : Account M) where
   pub data Stated (n : ℕ) : Result (ℕ × ℕ) ℕ → Type 0 where
     no_line : (IsLine s.topology n → ⊥) → Stated n (Err 12)
     told : {ticks : List ℕ} → IsLine s.topology n → KeptChanges s a n ticks → Stated n (Ok (settled s.topology a n, length ticks))
+
+module _ {M : Type 0} (s : Machine M) (a : Account M) where
+  -- feeding an input a value
+  pub data Feeding (n t : ℕ) (v : M) : Result Unit ℕ → Account M → Type 0 where
+    no_input : (IsInput s.topology n → ⊥) → Feeding n t v (Err 12) a
+    past : IsInput s.topology n → t < a.end n → Feeding n t v (Err 13) a
+    late : IsInput s.topology n → a.end n ≤ t → 1999999999 < t → Feeding n t v (Err 14) a
+    full : IsInput s.topology n → a.end n ≤ t → t ≤ 1999999999 → (AtMost s.room (Stable s (fed a n t v) n) a.trim (t + 1) → ⊥) → Feeding n t v (Err 16) a
+    accepted : CanFeed s a n t v → Feeding n t v (Ok tt) (fed a n t v)
+
+  -- holding an input's value
+  pub data Holding (n t : ℕ) : Result Unit ℕ → Account M → Type 0 where
+    no_input : (IsInput s.topology n → ⊥) → Holding n t (Err 12) a
+    past : IsInput s.topology n → t < a.end n → Holding n t (Err 13) a
+    late : IsInput s.topology n → a.end n ≤ t → 2000000000 < t → Holding n t (Err 14) a
+    accepted : CanHold s a n t → Holding n t (Ok tt) (held a n t)

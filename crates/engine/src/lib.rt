@@ -3,6 +3,7 @@
 
 mod asking;
 mod evaluation;
+mod giving;
 mod lines;
 mod records;
 mod running;

@@ -22,13 +22,21 @@ impl Lines {
     ghost use Rattle.std.specs.Prelude.{ℕ, ◌-◌, ◌+◌, ◌*◌, ◌<◌, ◌≤◌, ◌≢◌, min, Contains, fold, map, Decides, MatchOption};
     ghost use Rattle.engine.specs.Lines.{panel, moved, settled_in, extent, last_tick, IsLineOf};
     ghost use Rattle.semantics.specs.Circuits.{lines, gate_of_line, topology};
-    ghost use Rattle.semantics.specs.Machines.{IsGate};
+    ghost use Rattle.semantics.specs.Machines.{IsInput, IsGate};
 
     // Whether there is such a line.
     pub fn has(&self, line: u32) -> bool
         ensures { Decides result (IsLineOf (panel self.now) line) }
     {
         (1..=self.netlist.lines()).contains(&(line as usize))
+    }
+
+    // How far an input has come.
+    pub fn input(&self, line: u32) -> Option<Progress>
+        ensures { MatchOption result (IsInput (topology (panel self.now).circuit) line → ⊥) (λ progress. IsInput (topology (panel self.now).circuit) line × (progress ≡ (panel self.now).progress line)) }
+    {
+        let place = (line as usize).checked_sub(1)?;
+        self.inputs[..self.netlist.inputs()].get(place).copied()
     }
 
     // The row of a gate's line.

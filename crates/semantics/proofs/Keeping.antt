@@ -24,7 +24,7 @@ module _ {M : Type 0} (s : Machine M) where
   fits_on : (a : Account M) (n to later : ℕ) → to ≤ later → StableOn (Stable s a n) to later → AtMost s.room (Stable s a n) a.trim to → AtMost s.room (Stable s a n) a.trim later
   fits_on a n to later grows quiet fits = record { ticks = fits.ticks; changes = onward grows quiet fits.changes; few = fits.few }
 
-  hold_goes : (a : Account M) (n t : ℕ) → Invariant s a → CanHold s a n t → Goes s a (held a n t)
+  pub hold_goes : (a : Account M) (n t : ℕ) → Invariant s a → CanHold s a n t → Goes s a (held a n t)
   hold_goes a n t h c = record { held = after; stays = record { settled_times = grows; initial_values = λ m line. refl; values = λ m u line within. refl } }
     where
       ends : (m : ℕ) → a.end m ≤ (held a n t).end m
@@ -93,10 +93,10 @@ module _ {M : Type 0} (s : Machine M) where
   }
 
 module _ {M : Type 0} (a : Account M) (n t : ℕ) (v : M) where
-  unchanged_below : (u : ℕ) → u < t → (fed a n t v).waveform n u ≡ a.waveform n u
+  pub unchanged_below : (u : ℕ) → u < t → (fed a n t v).waveform n u ≡ a.waveform n u
   unchanged_below u below = ap (λ f. f u) (put_here a.waveform n (λ u. cond (ltb u t) (a.waveform n u) v)) ∙ ap (λ b. cond b (a.waveform n u) v) (lt-ltb u t below)
 
-  new_from : (u : ℕ) → t ≤ u → (fed a n t v).waveform n u ≡ v
+  pub new_from : (u : ℕ) → t ≤ u → (fed a n t v).waveform n u ≡ v
   new_from u from = ap (λ f. f u) (put_here a.waveform n (λ u. cond (ltb u t) (a.waveform n u) v)) ∙ ap (λ b. cond b (a.waveform n u) v) (le-ltb u t from)
 
   unchanged_else : (m u : ℕ) → (m ≡ n → ⊥) → (fed a n t v).waveform m u ≡ a.waveform m u

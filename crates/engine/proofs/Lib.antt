@@ -15,4 +15,5 @@ pub mod Runs
 pub mod Stepping
 pub mod Takes
 pub mod Telling
+pub mod Trims
 pub mod Ways

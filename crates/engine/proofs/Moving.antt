@@ -11,7 +11,7 @@ use Rattle.semantics.specs.Moves.{put}
 use Rattle.semantics.proofs.Putting.{put_here, put_there}
 use Rattle.semantics.proofs.Wiring.{input_range, gate_range, line_range}
 use Rattle.values.specs.Systems.{System}
-use Rattle.engine.specs.Lines.{Panel, moved, extent}
+use Rattle.engine.specs.Lines.{Panel, moved, extent, Holds}
 use Rattle.engine.specs.Standing.{Tells, machine_of, Shows, Keeps}
 use Rattle.engine.specs.Stores.{part, seen, OnlyThere}
 use Rattle.engine.proofs.Parts.{part_else, later, ends_within}
@@ -77,3 +77,6 @@ keeps_on p q r old mid new first second = record {
   same_length = second.same_length ∙ first.same_length;
   beyond = subst (λ e. drop e new ≡ drop e mid) (ap₂ (λ c k. lines c * k) first.circuit first.stride) second.beyond ∙ first.beyond;
 }
+
+pub holds_kept : {X : Type 0} (p q : Panel) (old new : List X) → Keeps p q old new → Holds p old → Holds q new
+holds_kept p q old new keeps holds = let same : extent q ≡ extent p = ap₂ (λ c k. lines c * k) keeps.circuit keeps.stride in omega (arith, keeps.same_length)

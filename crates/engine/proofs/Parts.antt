@@ -15,29 +15,41 @@ ends_within stride count n some within =
     subst (λ x. x ≤ count * stride) (suc-mul (n - 1) stride) (subst (λ m. m * stride ≤ count * stride) (sym whole) (mul-le-mul_right stride within))
 
 -- a write to some records from a place on
-module _ {X : Type 0} (place count : ℕ) (xs ys : List X) (within : place + count ≤ length xs) where
-  there : length ys ≡ count → OnlyThere place count xs (put_mid place count xs ys)
-  there as_many = record {
+module _ {X : Type 0} (place count : ℕ) (xs ys : List X) (within : place + count ≤ length xs) (as_many : length ys ≡ count) where
+  there : OnlyThere place count xs (put_mid place count xs ys)
+  there = record {
     same_length = omega (arith, as_many, length-append (take place xs) (ys ++ drop count (drop place xs)), length-append ys (drop count (drop place xs)), length-take-le place xs (omega arith), length-drop count (drop place xs), length-drop place xs);
     before = take-put_mid_below place count xs ys place (omega arith) (omega arith);
     after = drop-put_mid place count xs ys (place + count) (omega arith) (omega arith) as_many;
   }
 
-  written : length ys ≡ count → take count (drop place (put_mid place count xs ys)) ≡ ys
-  written as_many =
+  written : take count (drop place (put_mid place count xs ys)) ≡ ys
+  written =
       let gap : place + count - place ≡ count = omega arith in
       subst (λ n. take n (drop place (put_mid place count xs ys)) ≡ ys) gap (between-put_mid place count xs ys (place + count) (omega arith) (as_many ∙ sym gap))
 
-  -- where the place and the count are told in other words
-  pub wrote : (at k : ℕ) → at ≡ place → k ≡ count → length ys ≡ length (take k (drop at xs)) → OnlyThere place count xs (put_mid at k xs ys) × (take count (drop place (put_mid at k xs ys)) ≡ ys)
-  wrote at k same_place same_count as_many =
-      let all : length ys ≡ count = as_many ∙ (ap (λ n. length (take n (drop at xs))) same_count ∙ length-take-le count (drop at xs) (omega (arith, length-drop at xs))) in
-      subst (λ a. OnlyThere place count xs (put_mid a k xs ys) × (take count (drop place (put_mid a k xs ys)) ≡ ys)) (sym same_place)
-      (subst (λ n. OnlyThere place count xs (put_mid place n xs ys) × (take count (drop place (put_mid place n xs ys)) ≡ ys)) (sym same_count) (there all, written all))
+-- A line's part is written, between two places: the others stay, the part is what was written, and what was lent is what it was.
+module _ {X : Type 0} (stride n at : ℕ) (store now : List X) (begins : at ≡ (n - 1) * stride) (within : at + stride ≤ length store) (same_length : length now ≡ length (take (at + stride - at) (drop at store))) where
+  abbrev pub after_write : List X
+  after_write = put_mid at (at + stride - at) store now
 
--- a part where its place and the count are told in other words
-pub part_in_other_words : {X : Type 0} (stride n : ℕ) (store : List X) (at k : ℕ) → at ≡ (n - 1) * stride → k ≡ stride → take k (drop at store) ≡ part stride n store
-part_in_other_words stride n store at k same_place same_count = ap (λ a. take k (drop a store)) same_place ∙ ap (λ j. take j (drop ((n - 1) * stride) store)) same_count
+  width : at + stride - at ≡ stride
+  width = omega arith
+
+  pub lent : take (at + stride - at) (drop at store) ≡ part stride n store
+  lent = ap (λ k. take k (drop at store)) width ∙ ap (λ a. take stride (drop a store)) begins
+
+  pub now_length : length now ≡ stride
+  now_length = same_length ∙ (ap (λ k. length (take k (drop at store))) width ∙ length-take-le stride (drop at store) (omega (arith, length-drop at store)))
+
+  restated : (P : List X → Type 0) → P (put_mid ((n - 1) * stride) stride store now) → P after_write
+  restated P is = subst (λ k. P (put_mid at k store now)) (sym width) (subst (λ a. P (put_mid a stride store now)) (sym begins) is)
+
+  pub wrote_there : OnlyThere ((n - 1) * stride) stride store after_write
+  wrote_there = restated (OnlyThere ((n - 1) * stride) stride store) (there ((n - 1) * stride) stride store now (omega (arith, begins)) now_length)
+
+  pub wrote_part : part stride n after_write ≡ now
+  wrote_part = restated (λ xs. part stride n xs ≡ now) (written ((n - 1) * stride) stride store now (omega (arith, begins)) now_length)
 
 -- the first records of a part
 pub part_events : {X : Type 0} (stride n kept : ℕ) (store : List X) (at : ℕ) (d : X) → at ≡ (n - 1) * stride → kept < stride → at + stride ≤ length store → get_or store at d ∷ take kept (drop (at + 1) store) ≡ take (suc kept) (part stride n store)

@@ -31,8 +31,8 @@ module _ {V M : Type 0} (meaning : V → M) (v : ℕ → M) (changes : List (Eve
   tick_at i d e within = ap (λ p. p.0) (each i d e within)
 
   -- what is split among the records is split among the ticks
-  pub splits : (tick count : ℕ) → count ≤ length changes → ((i : ℕ) (d : EventRecord V) → 0 ≤ i → i < count → (get_or changes i d).tick ≤ tick) → ((i : ℕ) (d : EventRecord V) → count ≤ i → i < length changes → tick < (get_or changes i d).tick) → EventRecord V → Splits ts (suc tick) count
-  splits tick count few first others some = record {
+  pub splits_at : (u count : ℕ) → count ≤ length changes → ((i : ℕ) (d : EventRecord V) → 0 ≤ i → i < count → (get_or changes i d).tick < u) → ((i : ℕ) (d : EventRecord V) → count ≤ i → i < length changes → u ≤ (get_or changes i d).tick) → EventRecord V → Splits ts u count
+  splits_at u count few first others some = record {
     within = omega (arith, as_many);
     first = λ i d below. let is = tick_at i some d (omega arith) in let f = first i some (omega arith) below in omega arith;
     others = λ i d from below. let is = tick_at i some d (omega (arith, as_many)) in let f = others i some from (omega (arith, as_many)) in omega arith;
@@ -75,7 +75,7 @@ module _ {V M : Type 0} (meaning : V → M) (s : Machine M) (filler : M) (a : Ac
 
   module _ (tick limit : ℕ) (around : Around V) (until : ℕ) (before_limit : tick < limit) (settled : limit ≤ to) (found : AreAround base changes tick around) where
     parts : Splits h.ticks (suc tick) found.count
-    parts = splits meaning (value s a n) changes h.ticks changes_told tick found.count found.within found.parts.0 found.parts.1 base
+    parts = splits_at meaning (value s a n) changes h.ticks changes_told (suc tick) found.count found.within (λ i d from below. let f = found.parts.0 i d from below in omega arith) (λ i d from below. let f = found.parts.1 i d from below in omega arith) base
 
     -- how far the line stays as it is
     record Stays : Type 0 where

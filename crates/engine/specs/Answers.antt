@@ -7,7 +7,7 @@ use Rattle.semantics.specs.Changes.{AtMost}
 use Rattle.semantics.specs.Logs as Logs
 use Rattle.engine.specs.declared.running.Ending.{Ending}
 use Rattle.semantics.specs.Machines.{Machine, IsInput, IsGate, IsLine}
-use Rattle.semantics.specs.Moves.{fed, held, taken, CanFeed, CanHold, CanTake}
+use Rattle.semantics.specs.Moves.{fed, held, taken, trimmed, CanFeed, CanHold, CanTake, CanTrim}
 
 -- an answer with the number of its refusal
 abbrev pub numbered : {X : Type 0} → Result X Refusal → Result X ℕ
@@ -66,3 +66,11 @@ module _ {M : Type 0} (s : Machine M) (a : Account M) where
     past : IsInput s.topology n → t < a.end n → Holding n t (Err 13) a
     late : IsInput s.topology n → a.end n ≤ t → 2000000000 < t → Holding n t (Err 14) a
     accepted : CanHold s a n t → Holding n t (Ok tt) (held a n t)
+
+  -- dropping changes below a tick; where there are no lines, it is refused
+  pub data Trimming (t : ℕ) : Result Unit ℕ → Account M → Type 0 where
+    no_lines : ((n : ℕ) → IsLine s.topology n → ⊥) → Trimming t (Err 15) a
+    past : {n : ℕ} → IsLine s.topology n → t < a.trim → Trimming t (Err 13) a
+    beyond_end : {n : ℕ} → IsInput s.topology n → a.trim ≤ t → a.end n < t → Trimming t (Err 15) a
+    beyond_front : {n : ℕ} → IsGate s.topology n → a.trim ≤ t → a.front n < t → Trimming t (Err 15) a
+    accepted : {n : ℕ} → IsLine s.topology n → CanTrim s a t → Trimming t (Ok tt) (trimmed a t)

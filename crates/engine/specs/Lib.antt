@@ -1,4 +1,5 @@
 pub mod Answers
+pub mod Droppings
 pub mod Lines
 pub mod Looks
 pub mod Orders

@@ -8,3 +8,4 @@ mod lines;
 mod records;
 mod running;
 mod taking;
+mod trimming;

@@ -80,6 +80,19 @@ impl Lines {
         goal
     }
 
+    // A line that has not come up to a tick, if there is one.
+    pub fn behind(&self, tick: u32) -> Option<u32>
+        ensures { MatchOption result ((n : ℕ) → IsLineOf (panel self.now) n → tick ≤ ((panel self.now).progress n).tick) (λ n. IsLineOf (panel self.now) n × (((panel self.now).progress n).tick < tick)) }
+    {
+        for place in 0..self.netlist.lines() {
+            let line = place as u32 + 1;
+            if self.progress(line).tick < tick {
+                return Some(line);
+            }
+        }
+        None
+    }
+
     // Tells how far a line has come, and nothing of the others.
     pub fn advance(&mut self, line: u32, progress: Progress)
         requires a_line { IsLineOf (panel self.old) line }

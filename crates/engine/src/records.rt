@@ -2,7 +2,7 @@
 ghost use Rattle.std.specs.Prelude.{◌≡◌, ◌↔◌, ◌-◌, ◌*◌, ◌<◌, ◌∷◌, length, suc, take, drop, None};
 ghost use Rattle.std.specs.Option.{unwrap_or};
 ghost use Rattle.engine.specs.Lines.{panel, Holds, IsLineOf};
-ghost use Rattle.engine.specs.Recordings.{RecordedIn};
+ghost use Rattle.engine.specs.Recordings.{RecordedIn, DroppedIn};
 ghost use Rattle.engine.specs.Stores.{part, OnlyThere};
 
 use crate::lines::Lines;
@@ -73,4 +73,46 @@ pub(crate) fn record<V: ValueSystem>(
     let place = lines.place(line);
     let kept = lines.progress(line).kept;
     record_in(&mut store[place..place + lines.stride], kept, tick, value)
+}
+
+// Drops the changes below a tick from a line's part, and tells how many stay.
+fn drop_in<V: ValueSystem>(
+    part: &mut [EventRecord<V>],
+    kept: usize,
+    tick: u32,
+    filler: EventRecord<V>,
+) -> usize
+    requires { kept < length part.old }
+    ensures same_length { length part.new ≡ length part.old }
+    ensures dropped { DroppedIn tick filler kept part.old result part.new }
+    ensures fits { result < length part.new }
+{
+    let mut list = EventList {
+        records: part,
+        kept,
+    };
+    list.drop_below(tick, filler);
+    list.kept
+}
+
+// The same for a line.
+pub(crate) fn drop_below<V: ValueSystem>(
+    lines: &Lines,
+    store: &mut [EventRecord<V>],
+    line: u32,
+    tick: u32,
+) -> usize
+    requires a_line { IsLineOf (panel lines.now) line }
+    requires holds { Holds (panel lines.now) store.old }
+    ensures only_there { OnlyThere ((line - 1) * lines.now.stride) lines.now.stride store.old store.new }
+    ensures dropped { DroppedIn tick (record { tick = 0; value = V.START }) ((panel lines.now).progress line).kept (part lines.now.stride line store.old) result (part lines.now.stride line store.new) }
+    ensures fits { result < lines.now.stride }
+{
+    let place = lines.place(line);
+    let kept = lines.progress(line).kept;
+    let filler = EventRecord {
+        tick: 0,
+        value: V::START,
+    };
+    drop_in(&mut store[place..place + lines.stride], kept, tick, filler)
 }

@@ -1,10 +1,11 @@
 -- The parts of a store.
-use Rattle.std.proofs.Common.{◌≡◌, ℕ, suc, ◌+◌, ◌-◌, ◌*◌, ◌<◌, ◌≤◌, List, length, take, drop, ◌++◌, ◌∷◌, get_or, length-append, length-take-le, length-drop, ap, sym, ◌∙◌, subst, ⊎_elim, arith}
+use Rattle.std.proofs.Common.{◌≡◌, ℕ, suc, ◌+◌, ◌-◌, ◌*◌, ◌<◌, ◌≤◌, List, length, length-set, set, take, drop, ◌++◌, ◌∷◌, get_or, length-append, length-take-le, length-drop, ap, sym, ◌∙◌, subst, ⊎_elim, arith}
 use mathlib.Core.Path.{ap₂}
 use Rattle.std.proofs.Math.Nat.{mul-le-mul_right, suc-mul}
 use Rattle.std.proofs.lemmas.Slice.{take-put_mid_below, drop-put_mid, between-put_mid}
 use Rattle.std.proofs.lemmas.Bool.{cases_order}
-use Rattle.std.proofs.lemmas.List.{take-take, drop_more, drop-take, drop-drop, take-append-drop}
+use Rattle.std.proofs.lemmas.List.{take-take, drop_more, drop-take, drop-drop, take-append-drop, take-set-le, drop-set-lt, drop-set-add}
+use Rattle.std.proofs.Math.Seq.{take-set-lt}
 use borrow.Rule.Slice.PartMut.{put_mid}
 use Rattle.engine.specs.Stores.{OnlyThere, part}
 
@@ -97,3 +98,18 @@ part_length stride count n store some within holds =
 
 pub there_on : {X : Type 0} (place count : ℕ) (old mid new : List X) → OnlyThere place count old mid → OnlyThere place count mid new → OnlyThere place count old new
 there_on place count old mid new first second = record { same_length = second.same_length ∙ first.same_length; before = second.before ∙ first.before; after = second.after ∙ first.after }
+
+-- a part whose first record is replaced
+module _ {X : Type 0} (stride n at : ℕ) (store : List X) (x : X) (begins : at ≡ (n - 1) * stride) (some : 0 < stride) where
+  pub set_there : OnlyThere ((n - 1) * stride) stride store (set store at x)
+  set_there = record {
+    same_length = length-set store at x;
+    before = take-set-le ((n - 1) * stride) store at x (omega (arith, begins));
+    after = drop-set-lt ((n - 1) * stride + stride) store at x (omega (arith, begins));
+  }
+
+  pub set_part : part stride n (set store at x) ≡ set (part stride n store) 0 x
+  set_part =
+      let place : at ≡ (n - 1) * stride + 0 = omega (arith, begins) in
+      ap (λ i. part stride n (set store i x)) place
+      ∙ (ap (take stride) (drop-set-add ((n - 1) * stride) store 0 x) ∙ take-set-lt stride (drop ((n - 1) * stride) store) 0 x some)

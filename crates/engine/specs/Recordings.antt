@@ -1,5 +1,5 @@
 -- Recording in a part of a store; it serves the contracts of the engine's own functions.
-use Rattle.std.specs.Prelude.{ℕ, suc, Option, List, take, drop}
+use Rattle.std.specs.Prelude.{ℕ, suc, ◌-◌, Option, List, ◌∷◌, length, replicate, take, drop}
 use Rattle.std.specs.List.Sorted.{IsNonDecreasingBy}
 use Rattle.std.specs.Option.{is_some, unwrap_or}
 use Rattle.events.specs.declared.record.EventRecord.{EventRecord}
@@ -15,3 +15,7 @@ RecordedIn Alike kept event old result new =
 abbrev pub DroppedIn : {E : Type 0} → ℕ → EventRecord E → ℕ → List (EventRecord E) → ℕ → List (EventRecord E) → Type 0
 DroppedIn tick filler kept old result new =
     IsNonDecreasingBy (λ change. change.tick) (drop 1 (take (suc kept) old)) → Dropped tick filler (take (suc kept) old) (drop (suc kept) old) (take (suc result) new) (drop (suc result) new)
+
+-- records begun anew with a value at tick 0, and filled
+abbrev pub begun : {E : Type 0} → List (EventRecord E) → E → E → List (EventRecord E)
+begun old value filler = record { tick = 0; value = value } ∷ replicate (length old - 1) (record { tick = 0; value = filler })

@@ -1,8 +1,8 @@
 // The records of a session's lines.
-ghost use Rattle.std.specs.Prelude.{◌≡◌, ◌↔◌, ◌-◌, ◌*◌, ◌<◌, ◌∷◌, length, suc, take, drop, None};
+ghost use Rattle.std.specs.Prelude.{◌≡◌, ◌↔◌, ◌-◌, ◌*◌, ◌<◌, ◌∷◌, length, suc, take, drop, None, slice_set};
 ghost use Rattle.std.specs.Option.{unwrap_or};
 ghost use Rattle.engine.specs.Lines.{panel, Holds, IsLineOf};
-ghost use Rattle.engine.specs.Recordings.{RecordedIn, DroppedIn};
+ghost use Rattle.engine.specs.Recordings.{RecordedIn, DroppedIn, begun};
 ghost use Rattle.engine.specs.Stores.{part, OnlyThere};
 
 use crate::lines::Lines;
@@ -115,4 +115,56 @@ pub(crate) fn drop_below<V: ValueSystem>(
         value: V::START,
     };
     drop_in(&mut store[place..place + lines.stride], kept, tick, filler)
+}
+
+// A record at tick 0.
+fn at_start<V>(value: V) -> EventRecord<V>
+    ensures { result ≡ record { tick = 0; value = value } }
+{
+    EventRecord { tick: 0, value }
+}
+
+// Begins a line's part with a value at tick 0 and no change.
+fn begin_in<V: ValueSystem>(part: &mut [EventRecord<V>], value: V)
+    requires { 0 < length part.old }
+    ensures same_length { length part.new ≡ length part.old }
+    ensures begins { part.new ≡ begun part.old value V.START }
+{
+    let mut list = EventList {
+        records: part,
+        kept: 0,
+    };
+    list.clear(at_start(value), at_start(V::START));
+}
+
+// The same for a line.
+pub(crate) fn begin<V: ValueSystem>(
+    lines: &Lines,
+    store: &mut [EventRecord<V>],
+    line: u32,
+    value: V,
+)
+    requires a_line { IsLineOf (panel lines.now) line }
+    requires holds { Holds (panel lines.now) store.old }
+    ensures only_there { OnlyThere ((line - 1) * lines.now.stride) lines.now.stride store.old store.new }
+    ensures begins { part lines.now.stride line store.new ≡ begun (part lines.now.stride line store.old) value V.START }
+{
+    let place = lines.place(line);
+    begin_in(&mut store[place..place + lines.stride], value);
+}
+
+// Gives a line's part another value at tick 0.
+pub(crate) fn rebase<V: ValueSystem>(
+    lines: &Lines,
+    store: &mut [EventRecord<V>],
+    line: u32,
+    value: V,
+)
+    requires a_line { IsLineOf (panel lines.now) line }
+    requires holds { Holds (panel lines.now) store.old }
+    ensures only_there { OnlyThere ((line - 1) * lines.now.stride) lines.now.stride store.old store.new }
+    ensures begins { part lines.now.stride line store.new ≡ slice_set (part lines.now.stride line store.old) 0 (record { tick = 0; value = value }) }
+{
+    let place = lines.place(line);
+    store[place] = at_start(value);
 }

@@ -1,4 +1,6 @@
 pub mod Advancing
+pub mod Bases
+pub mod Beginnings
 pub mod Books
 pub mod Choosing
 pub mod Folding

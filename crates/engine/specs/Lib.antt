@@ -2,6 +2,7 @@ pub mod Answers
 pub mod Droppings
 pub mod Lines
 pub mod Looks
+pub mod Makings
 pub mod Orders
 pub mod Progresses
 pub mod Recordings

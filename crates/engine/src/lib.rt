@@ -5,6 +5,7 @@ mod asking;
 mod evaluation;
 mod giving;
 mod lines;
+mod making;
 mod records;
 mod running;
 mod taking;

@@ -19,7 +19,8 @@ pub struct Lines {
 }
 
 impl Lines {
-    ghost use Rattle.std.specs.Prelude.{ℕ, ◌-◌, ◌+◌, ◌*◌, ◌<◌, ◌≤◌, ◌≢◌, min, Contains, fold, map, Decides, MatchOption};
+    ghost use Rattle.std.specs.Prelude.{ℕ, ◌-◌, ◌+◌, ◌*◌, ◌<◌, ◌≤◌, ◌≢◌, min, true, Contains, fold, map, Decides, MatchOption, IfSome};
+    ghost use Rattle.netlist.specs.Walks.{Looped};
     ghost use Rattle.engine.specs.Lines.{panel, moved, settled_in, extent, last_tick, IsLineOf};
     ghost use Rattle.semantics.specs.Circuits.{lines, gate_of_line, topology};
     ghost use Rattle.semantics.specs.Machines.{IsInput, IsGate};
@@ -41,7 +42,8 @@ impl Lines {
 
     // The row of a gate's line.
     pub fn gate(&self, line: u32) -> Option<GateRow>
-        ensures { MatchOption result (IsGate (topology (panel self.now).circuit) line → ⊥) (λ row. IsGate (topology (panel self.now).circuit) line × (row.gate ≡ gate_of_line (panel self.now).circuit line) × (row.progress ≡ (panel self.now).progress line)) }
+        ensures told { MatchOption result (IsGate (topology (panel self.now).circuit) line → ⊥) (λ row. IsGate (topology (panel self.now).circuit) line × (row.gate ≡ gate_of_line (panel self.now).circuit line) × (row.progress ≡ (panel self.now).progress line)) }
+        ensures marked { IfSome result (λ row. (row.looped ≡ true → ∥ Looped (panel self.now).circuit line ∥₁) × (Looped (panel self.now).circuit line → row.looped ≡ true)) }
     {
         self.netlist.row(line)
     }

@@ -187,7 +187,7 @@ module _ {M : Type 0} (s : Machine M) (local : Local s.topology s.rule) where
   made_keeps : (start : ℕ → M) (n t : ℕ) → IsInput s.topology n → Stable s (made start) n t
   made_keeps start n t an_input = stable_at (made start) n t (start n) (local.input_begins start n an_input) (λ u upto. local.input_given start (λ m w. start m) n u an_input)
 
-  made_stable : (start : ℕ → M) (n : ℕ) → IsLine s.topology n → StableOn (Stable s (made start) n) 0 (settled s.topology (made start) n)
+  pub made_stable : (start : ℕ → M) (n : ℕ) → IsLine s.topology n → StableOn (Stable s (made start) n) 0 (settled s.topology (made start) n)
   made_stable start n line t from within =
       ⊎_elim (made_keeps start n t)
       (λ a_gate.

@@ -1,0 +1,61 @@
+-- The bases of lines that have begun.
+use Rattle.std.proofs.Common.{◌≡◌, ℕ, ◌+◌, ◌-◌, ◌*◌, ◌<◌, ◌≤◌, List, ◌∷◌, length, replicate, set, take, drop, get_or, get_or-take, get_or-drop, get_or-set_same, length-set, ap, sym, ◌∙◌, subst, ⊎_elim, arith}
+use Rattle.std.proofs.lemmas.Bool.{cases_eq}
+use Rattle.events.specs.declared.record.EventRecord.{EventRecord}
+use Rattle.netlist.specs.Gates.{Circuit}
+use Rattle.semantics.specs.Circuits.{lines, topology}
+use Rattle.semantics.specs.Machines.{IsLine}
+use Rattle.semantics.proofs.Wiring.{input_range, gate_range}
+use Rattle.engine.specs.Makings.{base, AllBegun}
+use Rattle.engine.specs.Recordings.{begun}
+use Rattle.engine.specs.Stores.{part, OnlyThere}
+use Rattle.engine.proofs.Parts.{part_else}
+
+positive_line : (c : Circuit) (n : ℕ) → IsLine (topology c) n → 0 < n
+positive_line c n line = ⊎_elim (λ an_input. let r = input_range c n an_input in omega (arith, r.0)) (λ a_gate. let r = gate_range c n a_gate in omega (arith, r.0)) line
+
+module _ {V : Type 0} (filler : V) (stride : ℕ) (some : 0 < stride) where
+  abbrev pub at_zero : V → EventRecord V
+  at_zero v = record { tick = 0; value = v }
+
+  -- a base is the first record of its line's part
+  pub base_in_part : (store : List (EventRecord V)) (n : ℕ) → base filler stride store n ≡ (get_or (part stride n store) 0 (at_zero filler)).value
+  base_in_part store n =
+      let place : (n - 1) * stride ≡ (n - 1) * stride + 0 = omega arith in
+      ap (λ (r : EventRecord V). r.value)
+      (ap (λ i. get_or store i (at_zero filler)) place
+      ∙ sym (get_or-take stride (drop ((n - 1) * stride) store) 0 (at_zero filler) some ∙ get_or-drop ((n - 1) * stride) store 0 (at_zero filler)))
+
+  -- one line gets another value at its base
+  module _ (old new : List (EventRecord V)) (line : ℕ) (value : V) (there : OnlyThere ((line - 1) * stride) stride old new) (written : part stride line new ≡ set (part stride line old) 0 (record { tick = 0; value = value })) (a_part : length (part stride line old) ≡ stride) (positive : 0 < line) where
+    pub base_here : base filler stride new line ≡ value
+    base_here = base_in_part new line ∙ ap (λ (r : EventRecord V). r.value) (ap (λ rs. get_or rs 0 (at_zero filler)) written ∙ get_or-set_same (part stride line old) 0 (at_zero value) (at_zero filler) (omega (arith, a_part)))
+
+    pub base_else : (m : ℕ) → 0 < m → (m ≡ line → ⊥) → base filler stride new m ≡ base filler stride old m
+    base_else m some_line other = base_in_part new m ∙ (ap (λ rs. (get_or rs 0 (at_zero filler)).value) (part_else stride line old new positive there m some_line other) ∙ sym (base_in_part old m))
+
+    pub still_begun : (c : Circuit) → AllBegun filler stride old c → AllBegun filler stride new c
+    still_begun c begins m is_line = ⊎_elim here there' (cases_eq m line)
+      where
+        first : m ≡ line → part stride line old ≡ begun (part stride line old) (base filler stride old line) filler
+        first same = begins line (subst (IsLine (topology c)) same is_line)
+
+        again : (rs : List (EventRecord V)) (v : V) → rs ≡ begun rs v filler → set rs 0 (record { tick = 0; value = value }) ≡ begun (set rs 0 (record { tick = 0; value = value })) value filler
+        again rs v is =
+            ap (λ xs. set xs 0 (record { tick = 0; value = value })) is
+            ∙ ap (λ k. record { tick = 0; value = value } ∷ replicate (k - 1) (record { tick = 0; value = filler })) (sym (length-set rs 0 (record { tick = 0; value = value })))
+
+        at_line : m ≡ line → part stride line new ≡ begun (part stride line new) (base filler stride new line) filler
+        at_line same =
+            subst (λ v. part stride line new ≡ begun (part stride line new) v filler) (sym base_here)
+            (subst (λ rs. rs ≡ begun rs value filler) (sym written) (again (part stride line old) (base filler stride old line) (first same)))
+
+        here : m ≡ line → part stride m new ≡ begun (part stride m new) (base filler stride new m) filler
+        here same = subst (λ k. part stride k new ≡ begun (part stride k new) (base filler stride new k) filler) (sym same) (at_line same)
+
+        there' : (m ≡ line → ⊥) → part stride m new ≡ begun (part stride m new) (base filler stride new m) filler
+        there' other =
+            let low = positive_line c m is_line in
+            let stays = part_else stride line old new positive there m low other in
+            subst (λ rs. rs ≡ begun rs (base filler stride new m) filler) (sym stays)
+            (subst (λ v. part stride m old ≡ begun (part stride m old) v filler) (sym (base_else m low other)) (begins m is_line))

@@ -1,0 +1,52 @@
+-- How lines begin.
+use Rattle.std.proofs.Common.{◌≡◌, ℕ, zero, suc, ◌<◌, ◌≤◌, Bool, true, false, map, refl, sym, ap, ◌∙◌, subst, inl, inr, ⊎_elim, arith}
+use Rattle.std.proofs.lemmas.Bool.{cases_Bool, cases_eq}
+use mathlib.Core.Bool.{Bool-set}
+use mathlib.Core.Logic.{∥∥₁_elim}
+use Rattle.netlist.specs.Gates.{Circuit}
+use Rattle.netlist.specs.Walks.{Looped, reads}
+use Rattle.values.specs.Systems.{System}
+use Rattle.gates.specs.Functions.{gate_function}
+use Rattle.semantics.specs.Circuits.{topology, gate_of_line, Wired}
+use Rattle.semantics.specs.Computed.{looped, initial}
+use Rattle.semantics.specs.Machines.{IsInput, IsGate, IsLine}
+use Rattle.semantics.proofs.Depths.{depth, depth_falls}
+use Rattle.semantics.proofs.Looping.{looped_passes, looped_walks, not_looped}
+use Rattle.semantics.proofs.Ruling.{begins, gates_equal}
+use Rattle.semantics.proofs.Wiring.{read_line, reads_of}
+use Rattle.engine.specs.Makings.{SettledAt, RightTo}
+
+-- a line is not both marked as looped and not looped
+pub marked : (c : Circuit) (n : ℕ) → ∥ Looped c n ∥₁ → (Looped c n → ⊥) → ⊥
+marked c n loop none = none (looped_walks c n (∥∥₁_elim loop (Bool-set (looped c n) true) (looped_passes c n)))
+
+-- where nothing is another, a line that is an input's or looped is settled
+pub unmoved : {M : Type 0} (s : System M) (c : Circuit) (line : ℕ) (b : ℕ → M) → (IsGate (topology c) line → (Looped c line → ⊥) → b line ≡ gate_function s (gate_of_line c line).kind (map b (reads c line))) → SettledAt s c line b b
+unmoved s c line b own = record { its_own = own; looped = λ gate loop. refl; no_gate = λ none. refl; others = λ n is_line other. refl }
+
+module _ {M : Type 0} (s : System M) (c : Circuit) (wired : Wired c) (start : ℕ → M) where
+  module _ (k line : ℕ) (b b' : ℕ → M) (right : RightTo s c start k b) (h : SettledAt s c line b b') where
+    -- the line itself is right, if it is at most so deep
+    pub here : IsLine (topology c) line → (IsGate (topology c) line → (Looped c line → ⊥) → depth c line < suc k) → b' line ≡ initial s c start line
+    here is_line shallow = ⊎_elim an_input a_gate is_line
+      where
+        an_input : IsInput (topology c) line → b' line ≡ initial s c start line
+        an_input is = h.no_gate (λ gate. cc) ∙ right line (inl is) (λ gate none. cc)
+
+        a_gate : IsGate (topology c) line → b' line ≡ initial s c start line
+        a_gate is =
+            ⊎_elim (λ loop. h.looped is (looped_walks c line loop) ∙ right line (inr is) (λ gate none. absurd (none (looped_walks c line loop))))
+            (λ told.
+            let none = not_looped c line told in
+            h.its_own is none
+            ∙ (gates_equal s (gate_of_line c line).kind b (initial s c start) (reads c line)
+            (λ m read. right m (read_line c wired line is m (reads_of c line m read)) (λ gate other. let falls = depth_falls c wired line m is told (reads_of c line m read) in let low = shallow is none in omega arith))
+            ∙ sym ((begins s c wired start).at_others line is none)))
+            (cases_Bool (looped c line))
+
+    -- what was right is right
+    pub stays_right : RightTo s c start k b'
+    stays_right n is_line shallow =
+        ⊎_elim (λ same. subst (λ m. b' m ≡ initial s c start m) (sym same) (here (subst (IsLine (topology c)) same is_line) (λ gate none. let low = shallow (subst (IsGate (topology c)) (sym same) gate) (subst (λ m. Looped c m → ⊥) (sym same) none) in omega (arith, ap (depth c) same))))
+        (λ other. h.others n is_line other ∙ right n is_line shallow)
+        (cases_eq n line)

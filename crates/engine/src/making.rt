@@ -1,0 +1,63 @@
+// How lines begin.
+ghost use Rattle.std.specs.Prelude.{◌≡◌, ℕ, suc, Contains, map, false};
+ghost use Rattle.engine.specs.Lines.{panel, Holds, IsLineOf};
+ghost use Rattle.engine.specs.Makings.{base, AllBegun, SettledAt, RightTo};
+ghost use Rattle.engine.specs.Standing.{Keeps};
+ghost use Rattle.gates.specs.Functions.{combined, finished, gate_function};
+ghost use Rattle.semantics.specs.Circuits.{Wired};
+
+use crate::lines::Lines;
+use crate::records::rebase;
+use events::record::EventRecord;
+use gates::{combine, finish};
+use netlist::kind::Kind;
+use netlist::row::GateRow;
+use values::system::ValueSystem;
+
+// What a line begins with, as its base tells.
+fn base_of<V: ValueSystem>(lines: &Lines, store: &[EventRecord<V>], line: u32) -> V
+    requires a_line { IsLineOf (panel lines.now) line }
+    requires holds { Holds (panel lines.now) store.now }
+    ensures { result ≡ base V.START lines.now.stride store.now line }
+{
+    store[lines.place(line)].value
+}
+
+// What a gate makes of what the lines that it reads begin with.
+fn begin_value<V: ValueSystem>(lines: &Lines, store: &[EventRecord<V>], row: &GateRow) -> V
+    requires of_lines { (m : ℕ) → Contains row.now.gate.reads m → IsLineOf (panel lines.now) m }
+    requires holds { Holds (panel lines.now) store.now }
+    ensures { V.meaning result ≡ gate_function V.system row.now.gate.kind (map (λ m. V.meaning (base V.START lines.now.stride store.now m)) row.now.gate.reads) }
+{
+    let [first, others @ ..] = row.reads() else {
+        return V::START;
+    };
+    let mut fold = base_of(lines, store, *first);
+    for line in others {
+        fold = combine(row.kind, fold, base_of(lines, store, *line));
+    }
+    finish(row.kind, fold)
+}
+
+// Gives the line of a gate, unless it is looped, the value that its gate makes of what the lines that it reads begin with, and
+// tells whether that is another than it had.
+fn settle<V: ValueSystem>(lines: &Lines, store: &mut [EventRecord<V>], line: u32) -> bool
+    requires holds { Holds (panel lines.now) store.old }
+    ensures keeps { Keeps (panel lines.now) (panel lines.now) store.old store.new }
+    ensures begun { AllBegun V.START lines.now.stride store.old (panel lines.now).circuit → AllBegun V.START lines.now.stride store.new (panel lines.now).circuit }
+    ensures settles { SettledAt V.system (panel lines.now).circuit line (λ n. V.meaning (base V.START lines.now.stride store.old n)) (λ n. V.meaning (base V.START lines.now.stride store.new n)) }
+    ensures unaltered { result ≡ false → store.new ≡ store.old }
+{
+    let Some(row) = lines.gate(line) else {
+        return false;
+    };
+    if row.looped {
+        return false;
+    }
+    let value = begin_value(lines, store, &row);
+    if base_of(lines, store, line).same(value) {
+        return false;
+    }
+    rebase(lines, store, line, value);
+    true
+}

@@ -11,7 +11,7 @@ use Rattle.engine.specs.Recordings.{begun}
 use Rattle.engine.specs.Stores.{part, OnlyThere}
 use Rattle.engine.proofs.Parts.{part_else}
 
-positive_line : (c : Circuit) (n : ℕ) → IsLine (topology c) n → 0 < n
+pub positive_line : (c : Circuit) (n : ℕ) → IsLine (topology c) n → 0 < n
 positive_line c n line = ⊎_elim (λ an_input. let r = input_range c n an_input in omega (arith, r.0)) (λ a_gate. let r = gate_range c n a_gate in omega (arith, r.0)) line
 
 module _ {V : Type 0} (filler : V) (stride : ℕ) (some : 0 < stride) where

@@ -1,5 +1,5 @@
 -- How lines begin.
-use Rattle.std.proofs.Common.{◌≡◌, ℕ, zero, suc, ◌<◌, ◌≤◌, Bool, true, false, map, refl, sym, ap, ◌∙◌, subst, inl, inr, ⊎_elim, arith}
+use Rattle.std.proofs.Common.{◌≡◌, ℕ, suc, ◌+◌, ◌<◌, ◌≤◌, Bool, true, false, map, refl, sym, ap, ◌∙◌, subst, inl, inr, ⊎_elim, arith}
 use Rattle.std.proofs.lemmas.Bool.{cases_Bool, cases_eq}
 use mathlib.Core.Bool.{Bool-set}
 use mathlib.Core.Logic.{∥∥₁_elim}
@@ -7,14 +7,15 @@ use Rattle.netlist.specs.Gates.{Circuit}
 use Rattle.netlist.specs.Walks.{Looped, reads}
 use Rattle.values.specs.Systems.{System}
 use Rattle.gates.specs.Functions.{gate_function}
-use Rattle.semantics.specs.Circuits.{topology, gate_of_line, Wired}
+use Rattle.semantics.specs.Circuits.{lines, topology, gate_of_line, Wired}
 use Rattle.semantics.specs.Computed.{looped, initial}
 use Rattle.semantics.specs.Machines.{IsInput, IsGate, IsLine}
 use Rattle.semantics.proofs.Depths.{depth, depth_falls}
 use Rattle.semantics.proofs.Looping.{looped_passes, looped_walks, not_looped}
 use Rattle.semantics.proofs.Ruling.{begins, gates_equal}
-use Rattle.semantics.proofs.Wiring.{read_line, reads_of}
+use Rattle.semantics.proofs.Wiring.{read_line, reads_of, line_range}
 use Rattle.engine.specs.Makings.{SettledAt, RightTo}
+use Rattle.engine.proofs.Bases.{positive_line}
 
 -- a line is not both marked as looped and not looped
 pub marked : (c : Circuit) (n : ℕ) → ∥ Looped c n ∥₁ → (Looped c n → ⊥) → ⊥
@@ -50,3 +51,25 @@ module _ {M : Type 0} (s : System M) (c : Circuit) (wired : Wired c) (start : �
         ⊎_elim (λ same. subst (λ m. b' m ≡ initial s c start m) (sym same) (here (subst (IsLine (topology c)) same is_line) (λ gate none. let low = shallow (subst (IsGate (topology c)) (sym same) gate) (subst (λ m. Looped c m → ⊥) (sym same) none) in omega (arith, ap (depth c) same))))
         (λ other. h.others n is_line other ∙ right n is_line shallow)
         (cases_eq n line)
+
+-- Lines are right to a depth, and those up to a line one gate deeper.
+pub record PassedTo {M : Type 0} (s : System M) (c : Circuit) (start : ℕ → M) (k line : ℕ) (b : ℕ → M) : Type 0 where
+  pub right : RightTo s c start k b
+  pub deeper : (n : ℕ) → n ≤ line → IsLine (topology c) n → (IsGate (topology c) n → (Looped c n → ⊥) → depth c n < suc k) → b n ≡ initial s c start n
+
+module _ {M : Type 0} (s : System M) (c : Circuit) (start : ℕ → M) (k : ℕ) where
+  pub passed_none : (b : ℕ → M) → RightTo s c start k b → PassedTo s c start k 0 b
+  passed_none b right = record { right = right; deeper = λ n low is_line shallow. let some = positive_line c n is_line in absurd (omega arith) }
+
+  pub passed_one : Wired c → (place : ℕ) (b b' : ℕ → M) → PassedTo s c start k place b → SettledAt s c (place + 1) b b' → PassedTo s c start k (place + 1) b'
+  passed_one wired place b b' passed h = record {
+    right = stays_right s c wired start k (place + 1) b b' passed.right h;
+    deeper = λ n upto is_line shallow.
+        ⊎_elim (λ same. subst (λ m. b' m ≡ initial s c start m) (sym same) (here s c wired start k (place + 1) b b' passed.right h (subst (IsLine (topology c)) same is_line)
+        (λ gate none. let low = shallow (subst (IsGate (topology c)) (sym same) gate) (subst (λ m. Looped c m → ⊥) (sym same) none) in omega (arith, ap (depth c) same))))
+        (λ other. h.others n is_line other ∙ passed.deeper n (omega (arith, other)) is_line shallow)
+        (cases_eq n (place + 1));
+  }
+
+  pub passed_all : (b : ℕ → M) → PassedTo s c start k (lines c) b → RightTo s c start (suc k) b
+  passed_all b passed n is_line shallow = passed.deeper n (line_range c n is_line) is_line shallow

@@ -61,3 +61,20 @@ fn settle<V: ValueSystem>(lines: &Lines, store: &mut [EventRecord<V>], line: u32
     rebase(lines, store, line, value);
     true
 }
+
+// Settles each line once, in their order, and tells whether any was altered. So the lines are right one gate deeper.
+fn pass<V: ValueSystem>(lines: &Lines, store: &mut [EventRecord<V>]) -> bool
+    requires { Holds (panel lines.now) store.old }
+    ensures keeps { Keeps (panel lines.now) (panel lines.now) store.old store.new }
+    ensures begun { AllBegun V.START lines.now.stride store.old (panel lines.now).circuit → AllBegun V.START lines.now.stride store.new (panel lines.now).circuit }
+    ensures deeper { (start : ℕ → V.Sense) (k : ℕ) → RightTo V.system (panel lines.now).circuit start k (λ n. V.meaning (base V.START lines.now.stride store.old n)) → RightTo V.system (panel lines.now).circuit start (suc k) (λ n. V.meaning (base V.START lines.now.stride store.new n)) }
+    ensures unaltered { result ≡ false → store.new ≡ store.old }
+{
+    let mut altered = false;
+    for place in 0..lines.netlist.lines() {
+        if settle(lines, store, place as u32 + 1) {
+            altered = true;
+        }
+    }
+    altered
+}

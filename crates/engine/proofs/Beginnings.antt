@@ -1,5 +1,5 @@
 -- How lines begin.
-use Rattle.std.proofs.Common.{◌≡◌, ℕ, suc, ◌+◌, ◌<◌, ◌≤◌, Bool, true, false, map, refl, sym, ap, ◌∙◌, subst, inl, inr, ⊎_elim, arith}
+use Rattle.std.proofs.Common.{◌≡◌, ℕ, zero, suc, ◌+◌, ◌<◌, ◌≤◌, Bool, true, false, map, refl, sym, ap, ◌∙◌, subst, inl, inr, ⊎_elim, arith}
 use Rattle.std.proofs.lemmas.Bool.{cases_Bool, cases_eq}
 use mathlib.Core.Bool.{Bool-set}
 use mathlib.Core.Logic.{∥∥₁_elim}
@@ -10,11 +10,11 @@ use Rattle.gates.specs.Functions.{gate_function}
 use Rattle.semantics.specs.Circuits.{lines, topology, gate_of_line, Wired}
 use Rattle.semantics.specs.Computed.{looped, initial}
 use Rattle.semantics.specs.Machines.{IsInput, IsGate, IsLine}
-use Rattle.semantics.proofs.Depths.{depth, depth_falls}
+use Rattle.semantics.proofs.Depths.{depth, depth_bound, depth_falls}
 use Rattle.semantics.proofs.Looping.{looped_passes, looped_walks, not_looped}
 use Rattle.semantics.proofs.Ruling.{begins, gates_equal}
 use Rattle.semantics.proofs.Wiring.{read_line, reads_of, line_range}
-use Rattle.engine.specs.Makings.{SettledAt, RightTo}
+use Rattle.engine.specs.Makings.{SettledAt, RightTo, AllRight}
 use Rattle.engine.proofs.Bases.{positive_line}
 
 -- a line is not both marked as looped and not looped
@@ -73,3 +73,15 @@ module _ {M : Type 0} (s : System M) (c : Circuit) (start : ℕ → M) (k : ℕ)
 
   pub passed_all : (b : ℕ → M) → PassedTo s c start k (lines c) b → RightTo s c start (suc k) b
   passed_all b passed n is_line shallow = passed.deeper n (line_range c n is_line) is_line shallow
+
+  -- lines right to the greatest depth are all right
+  pub all_right : (b : ℕ → M) → RightTo s c start (lines c + 1) b → AllRight s c start b
+  all_right b right n is_line = right n is_line (λ gate none. let far = depth_bound c n in omega arith)
+
+-- where one depth leads to the next, all lines are right
+pub right_on : {M : Type 0} (s : System M) (c : Circuit) (start : ℕ → M) (b : ℕ → M) → ((k : ℕ) → RightTo s c start k b → RightTo s c start (suc k) b) → (k : ℕ) → RightTo s c start 0 b → RightTo s c start k b
+right_on s c start b next zero right = right
+right_on s c start b next (suc k) right = next k (right_on s c start b next k right)
+
+pub least_right : {M : Type 0} (s : System M) (c : Circuit) (start : ℕ → M) (b : ℕ → M) (k : ℕ) → RightTo s c start k b → RightTo s c start 0 b
+least_right s c start b k right n is_line shallow = right n is_line (λ gate none. let low = shallow gate none in absurd (omega arith))

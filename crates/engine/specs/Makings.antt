@@ -33,3 +33,7 @@ module _ {M : Type 0} (s : System M) (c : Circuit) where
   -- Inputs, looped lines, and other gates' lines less deep than this begin as the rule says.
   abbrev pub RightTo : (ℕ → M) → ℕ → (ℕ → M) → Type 0
   RightTo start k begins = (n : ℕ) → IsLine (topology c) n → (IsGate (topology c) n → (Looped c n → ⊥) → depth c n < k) → begins n ≡ initial s c start n
+
+  -- all lines begin as the rule says
+  abbrev pub AllRight : (ℕ → M) → (ℕ → M) → Type 0
+  AllRight start begins = (n : ℕ) → IsLine (topology c) n → begins n ≡ initial s c start n

@@ -1,7 +1,7 @@
 // How lines begin.
 ghost use Rattle.std.specs.Prelude.{◌≡◌, ℕ, suc, Contains, map, false};
 ghost use Rattle.engine.specs.Lines.{panel, Holds, IsLineOf};
-ghost use Rattle.engine.specs.Makings.{base, AllBegun, SettledAt, RightTo};
+ghost use Rattle.engine.specs.Makings.{base, AllBegun, SettledAt, RightTo, AllRight};
 ghost use Rattle.engine.specs.Standing.{Keeps};
 ghost use Rattle.gates.specs.Functions.{combined, finished, gate_function};
 ghost use Rattle.semantics.specs.Circuits.{Wired};
@@ -77,4 +77,18 @@ fn pass<V: ValueSystem>(lines: &Lines, store: &mut [EventRecord<V>]) -> bool
         }
     }
     altered
+}
+
+// Settles what all gates' lines begin with, where inputs and looped lines have begun.
+fn settle_all<V: ValueSystem>(lines: &Lines, store: &mut [EventRecord<V>])
+    requires { Holds (panel lines.now) store.old }
+    ensures keeps { Keeps (panel lines.now) (panel lines.now) store.old store.new }
+    ensures begun { AllBegun V.START lines.now.stride store.old (panel lines.now).circuit → AllBegun V.START lines.now.stride store.new (panel lines.now).circuit }
+    ensures right { (start : ℕ → V.Sense) → RightTo V.system (panel lines.now).circuit start 0 (λ n. V.meaning (base V.START lines.now.stride store.old n)) → AllRight V.system (panel lines.now).circuit start (λ n. V.meaning (base V.START lines.now.stride store.new n)) }
+{
+    for passes in 0..lines.netlist.lines() + 1 {
+        if !pass(lines, store) {
+            return;
+        }
+    }
 }

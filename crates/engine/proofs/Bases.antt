@@ -1,9 +1,9 @@
 -- The bases of lines that have begun.
-use Rattle.std.proofs.Common.{◌≡◌, ℕ, ◌+◌, ◌-◌, ◌*◌, ◌<◌, ◌≤◌, List, ◌∷◌, length, replicate, set, take, drop, get_or, get_or-take, get_or-drop, get_or-set_same, length-set, ap, sym, ◌∙◌, subst, ⊎_elim, arith}
+use Rattle.std.proofs.Common.{◌≡◌, ℕ, ◌+◌, ◌-◌, ◌*◌, ◌<◌, List, ◌∷◌, length, replicate, set, drop, get_or, get_or-take, get_or-drop, get_or-set_same, length-set, ap, sym, ◌∙◌, subst, ⊎_elim, arith}
 use Rattle.std.proofs.lemmas.Bool.{cases_eq}
 use Rattle.events.specs.declared.record.EventRecord.{EventRecord}
 use Rattle.netlist.specs.Gates.{Circuit}
-use Rattle.semantics.specs.Circuits.{lines, topology}
+use Rattle.semantics.specs.Circuits.{topology}
 use Rattle.semantics.specs.Machines.{IsLine}
 use Rattle.semantics.proofs.Wiring.{input_range, gate_range}
 use Rattle.engine.specs.Makings.{base, AllBegun}

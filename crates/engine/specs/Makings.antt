@@ -1,5 +1,5 @@
 -- How lines begin; it serves the contracts of the engine's own functions.
-use Rattle.std.specs.Prelude.{◌≡◌, ℕ, ◌-◌, ◌*◌, ◌<◌, ◌≢◌, false, List, map, slice_index_or}
+use Rattle.std.specs.Prelude.{◌≡◌, ℕ, ◌-◌, ◌*◌, ◌<◌, ◌≢◌, List, map, slice_index_or}
 use Rattle.netlist.specs.Gates.{Circuit}
 use Rattle.netlist.specs.Walks.{reads, Looped}
 use Rattle.values.specs.Systems.{System}

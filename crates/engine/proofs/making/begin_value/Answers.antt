@@ -1,4 +1,4 @@
-use Rattle.std.proofs.Common.{◌<◌, ◌-◌, length, take, drop, get_or, subst, Contains, rules, arith}
+use Rattle.std.proofs.Common.{◌-◌, length, take, drop, get_or, subst, Contains, rules}
 use Rattle.std.proofs.lemmas.List.Elements.{Contains-get_or}
 use Rattle.engine.proofs.Folding.{of_rest}
 use Rattle.engine.proofs.making.begin_value.Goals as goal

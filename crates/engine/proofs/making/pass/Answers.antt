@@ -1,4 +1,4 @@
-use Rattle.std.proofs.Common.{◌≡◌, ℕ, List, ◌+◌, ◌≤◌, sym, ◌∙◌, subst, refl, arith}
+use Rattle.std.proofs.Common.{◌≡◌, ℕ, List, sym, ◌∙◌, subst, refl, arith}
 use Rattle.std.proofs.lemmas.Bool.{both_ways}
 use Rattle.events.specs.declared.record.EventRecord.{EventRecord}
 use Rattle.semantics.specs.Circuits.{lines}
@@ -6,7 +6,7 @@ use Rattle.engine.specs.Lines.{panel}
 use Rattle.engine.specs.Makings.{base}
 use Rattle.engine.proofs.Beginnings.{passed_none, passed_one, passed_all, PassedTo}
 use Rattle.engine.proofs.Books.{sure}
-use Rattle.engine.proofs.Moving.{keeps_on, holds_kept}
+use Rattle.engine.proofs.Moving.{keeps_on}
 use Rattle.engine.proofs.making.pass.Goals.{then-settle, else-settle}
 use Rattle.engine.proofs.making.pass.Goals as goal
 

@@ -1,12 +1,11 @@
-use Rattle.std.proofs.Common.{◌≡◌, ℕ, ◌+◌, ◌-◌, ◌*◌, ◌<◌, ◌≤◌, length, ap, sym, ◌∙◌, subst, map, Contains, inr, refl, rules, arith}
+use Rattle.std.proofs.Common.{ℕ, ◌<◌, ap, sym, ◌∙◌, subst, map, Contains, inr, refl, rules, arith}
 use Rattle.std.proofs.lemmas.Bool.{both_ways}
 use Rattle.netlist.specs.GateRow.{MarkedGate}
 use Rattle.netlist.specs.Gates.{Gate}
 use Rattle.gates.specs.Functions.{gate_function}
-use Rattle.semantics.specs.Circuits.{lines, topology, gate_of_line}
+use Rattle.semantics.specs.Circuits.{lines, gate_of_line}
 use Rattle.engine.specs.Lines.{panel, extent}
 use Rattle.engine.specs.Makings.{base, SettledAt}
-use Rattle.engine.specs.Stores.{part}
 use Rattle.engine.proofs.Bases.{base_here, base_else, still_begun}
 use Rattle.engine.proofs.Beginnings.{unmoved, marked}
 use Rattle.engine.proofs.Books.{sure, of_line}

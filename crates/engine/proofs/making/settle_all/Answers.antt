@@ -1,4 +1,4 @@
-use Rattle.std.proofs.Common.{◌≡◌, ℕ, List, suc, ◌+◌, ◌≤◌, sym, ◌∙◌, subst, refl, rules, arith}
+use Rattle.std.proofs.Common.{◌≡◌, ℕ, List, suc, ◌+◌, sym, subst, rules, arith}
 use Rattle.events.specs.declared.record.EventRecord.{EventRecord}
 use Rattle.semantics.specs.Circuits.{lines}
 use Rattle.engine.specs.Lines.{panel}

@@ -1,4 +1,4 @@
-use Rattle.std.proofs.Common.{◌≡◌, ℕ, List}
+use Rattle.std.proofs.Common.{ℕ, List}
 use Rattle.events.specs.declared.record.EventRecord.{EventRecord}
 use Rattle.engine.specs.Lines.{panel}
 use Rattle.engine.specs.Makings.{base, AllBegun, RightTo}

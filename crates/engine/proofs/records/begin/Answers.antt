@@ -1,4 +1,4 @@
-use Rattle.std.proofs.Common.{◌+◌, ◌≤◌, length, arith}
+use Rattle.std.proofs.Common.{arith}
 use Rattle.engine.proofs.Parts.{wrote_there}
 use Rattle.engine.proofs.records.begin.Goals as goal
 

@@ -1,4 +1,4 @@
-use Rattle.std.proofs.Common.{◌<◌, set, ap, ◌∙◌, arith}
+use Rattle.std.proofs.Common.{set, ap, ◌∙◌, arith}
 use Rattle.events.specs.declared.record.EventRecord.{EventRecord}
 use Rattle.engine.specs.Stores.{part}
 use Rattle.engine.proofs.Parts.{set_there, set_part}

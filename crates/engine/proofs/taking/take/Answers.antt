@@ -26,12 +26,12 @@ pub goal-goal-requires : goal.goal-goal-requires
 goal-goal-requires g c m read =
     let l = c.args.lines.now in
     let p = panel l in
-    let row = c.in-Some.ensures in
+    let row = c.in-Some.ensures.told in
     let line = (sound p.circuit (sure l).wired).reads_lines c.args.line m row.0 (subst (λ ms. Contains ms m) (sym (same_reads p.circuit c.args.line row.0 ∙ ap (λ (x : Gate). x.reads) (sym row.1))) read) in
     (positive p m line, line_range p.circuit m line)
 
 pub returns-in_default-clause-answers : goal.returns-in_default-clause-answers
-returns-in_default-clause-answers g c a h = (a, Taking.no_gate c.in_default.ensures, h)
+returns-in_default-clause-answers g c a h = (a, Taking.no_gate c.in_default.ensures.told, h)
 
 pub returns-then-row-goal-clause-answers : goal.returns-then-row-goal-clause-answers
 returns-then-row-goal-clause-answers g c a h =
@@ -40,7 +40,7 @@ returns-then-row-goal-clause-answers g c a h =
     let l = c.args.lines.now in
     let p = panel l in
     let n = c.args.line in
-    let row = c.in-Some.ensures in
+    let row = c.in-Some.ensures.told in
     let a_gate = row.0 in
     let order = in_order meaning system p c.args.store.now a (sure l) h in
     let told = c.goal-goal.ensures ∙ goal_told meaning system p c.args.store.now a (sure l) h n a_gate c.in-Some.row.gate.reads (same_reads p.circuit n a_gate ∙ ap (λ (x : Gate). x.reads) (sym row.1)) in
@@ -55,7 +55,7 @@ returns-then-not-step-clause-answers g c a h =
     let l = c.args.lines.now in
     let p = panel l in
     let n = c.args.line in
-    let row = c.in-Some.ensures in
+    let row = c.in-Some.ensures.told in
     let a_gate = row.0 in
     let order = in_order meaning system p c.args.store.now a (sure l) h in
     let told = c.goal-goal.ensures ∙ goal_told meaning system p c.args.store.now a (sure l) h n a_gate c.in-Some.row.gate.reads (same_reads p.circuit n a_gate ∙ ap (λ (x : Gate). x.reads) (sym row.1)) in
@@ -77,7 +77,7 @@ returns-clause-keeps g c =
     let q = panel c.step.new.lines in
     let r = panel c.follow.new.lines in
     let n = c.args.line in
-    let a_gate = c.in-Some.ensures.0 in
+    let a_gate = c.in-Some.ensures.told.0 in
     keeps_on p q r c.args.store.now c.step.new.store c.follow.new.store
     (keeps_moved p q n (q.progress n) c.args.store.now c.step.new.store c.step.ensures.moves_one (inr a_gate) c.step.ensures.only_there)
     (keeps_moved q r n (r.progress n) c.step.new.store c.follow.new.store c.follow.ensures.moves_one (inr (subst (λ (o : Panel). IsGate (topology o.circuit) n) (sym c.step.ensures.moves_one) a_gate)) c.follow.ensures.only_there)
@@ -89,7 +89,7 @@ returns-clause-answers g c a h =
     let l = c.args.lines.now in
     let p = panel l in
     let n = c.args.line in
-    let row = c.in-Some.ensures in
+    let row = c.in-Some.ensures.told in
     let a_gate = row.0 in
     let order = in_order meaning system p c.args.store.now a (sure l) h in
     let told = c.goal-goal.ensures ∙ goal_told meaning system p c.args.store.now a (sure l) h n a_gate c.in-Some.row.gate.reads (same_reads p.circuit n a_gate ∙ ap (λ (x : Gate). x.reads) (sym row.1)) in

@@ -5,14 +5,11 @@ use Rattle.events.specs.declared.record.EventRecord.{EventRecord}
 use Rattle.netlist.specs.Gates.{Circuit}
 use Rattle.semantics.specs.Circuits.{topology}
 use Rattle.semantics.specs.Machines.{IsLine}
-use Rattle.semantics.proofs.Wiring.{input_range, gate_range}
 use Rattle.engine.specs.Makings.{base, AllBegun}
 use Rattle.engine.specs.Recordings.{begun}
 use Rattle.engine.specs.Stores.{part, OnlyThere}
+use Rattle.engine.proofs.Books.{positive}
 use Rattle.engine.proofs.Parts.{part_else}
-
-pub positive_line : (c : Circuit) (n : ℕ) → IsLine (topology c) n → 0 < n
-positive_line c n line = ⊎_elim (λ an_input. let r = input_range c n an_input in omega (arith, r.0)) (λ a_gate. let r = gate_range c n a_gate in omega (arith, r.0)) line
 
 module _ {V : Type 0} (filler : V) (stride : ℕ) (some : 0 < stride) where
   abbrev pub at_zero : V → EventRecord V
@@ -27,12 +24,12 @@ module _ {V : Type 0} (filler : V) (stride : ℕ) (some : 0 < stride) where
       ∙ sym (get_or-take stride (drop ((n - 1) * stride) store) 0 (at_zero filler) some ∙ get_or-drop ((n - 1) * stride) store 0 (at_zero filler)))
 
   -- one line gets another value at its base
-  module _ (old new : List (EventRecord V)) (line : ℕ) (value : V) (there : OnlyThere ((line - 1) * stride) stride old new) (written : part stride line new ≡ set (part stride line old) 0 (record { tick = 0; value = value })) (a_part : length (part stride line old) ≡ stride) (positive : 0 < line) where
+  module _ (old new : List (EventRecord V)) (line : ℕ) (value : V) (there : OnlyThere ((line - 1) * stride) stride old new) (written : part stride line new ≡ set (part stride line old) 0 (record { tick = 0; value = value })) (a_part : length (part stride line old) ≡ stride) (numbered : 0 < line) where
     pub base_here : base filler stride new line ≡ value
     base_here = base_in_part new line ∙ ap (λ (r : EventRecord V). r.value) (ap (λ rs. get_or rs 0 (at_zero filler)) written ∙ get_or-set_same (part stride line old) 0 (at_zero value) (at_zero filler) (omega (arith, a_part)))
 
     pub base_else : (m : ℕ) → 0 < m → (m ≡ line → ⊥) → base filler stride new m ≡ base filler stride old m
-    base_else m some_line other = base_in_part new m ∙ (ap (λ rs. (get_or rs 0 (at_zero filler)).value) (part_else stride line old new positive there m some_line other) ∙ sym (base_in_part old m))
+    base_else m some_line other = base_in_part new m ∙ (ap (λ rs. (get_or rs 0 (at_zero filler)).value) (part_else stride line old new numbered there m some_line other) ∙ sym (base_in_part old m))
 
     pub still_begun : (c : Circuit) → AllBegun filler stride old c → AllBegun filler stride new c
     still_begun c begins m is_line = ⊎_elim here there' (cases_eq m line)
@@ -55,7 +52,7 @@ module _ {V : Type 0} (filler : V) (stride : ℕ) (some : 0 < stride) where
 
         there' : (m ≡ line → ⊥) → part stride m new ≡ begun (part stride m new) (base filler stride new m) filler
         there' other =
-            let low = positive_line c m is_line in
-            let stays = part_else stride line old new positive there m low other in
+            let low = positive c m is_line in
+            let stays = part_else stride line old new numbered there m low other in
             subst (λ rs. rs ≡ begun rs (base filler stride new m) filler) (sym stays)
             (subst (λ v. part stride m old ≡ begun (part stride m old) v filler) (sym (base_else m low other)) (begins m is_line))

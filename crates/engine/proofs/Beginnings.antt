@@ -15,7 +15,7 @@ use Rattle.semantics.proofs.Looping.{looped_passes, looped_walks, not_looped}
 use Rattle.semantics.proofs.Ruling.{begins, gates_equal}
 use Rattle.semantics.proofs.Wiring.{read_line, reads_of, line_range}
 use Rattle.engine.specs.Makings.{SettledAt, RightTo, AllRight}
-use Rattle.engine.proofs.Bases.{positive_line}
+use Rattle.engine.proofs.Books.{positive}
 
 -- a line is not both marked as looped and not looped
 pub marked : (c : Circuit) (n : ℕ) → ∥ Looped c n ∥₁ → (Looped c n → ⊥) → ⊥
@@ -59,7 +59,7 @@ pub record PassedTo {M : Type 0} (s : System M) (c : Circuit) (start : ℕ → M
 
 module _ {M : Type 0} (s : System M) (c : Circuit) (start : ℕ → M) (k : ℕ) where
   pub passed_none : (b : ℕ → M) → RightTo s c start k b → PassedTo s c start k 0 b
-  passed_none b right = record { right = right; deeper = λ n low is_line shallow. let some = positive_line c n is_line in absurd (omega arith) }
+  passed_none b right = record { right = right; deeper = λ n low is_line shallow. let some = positive c n is_line in absurd (omega arith) }
 
   pub passed_one : Wired c → (place : ℕ) (b b' : ℕ → M) → PassedTo s c start k place b → SettledAt s c (place + 1) b b' → PassedTo s c start k (place + 1) b'
   passed_one wired place b b' passed h = record {

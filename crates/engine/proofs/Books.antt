@@ -8,6 +8,7 @@ use Rattle.netlist.specs.Judging.{AllReached}
 use Rattle.netlist.specs.Walks.{reads}
 use Rattle.netlist.proofs.Rewriting.{count_gates}
 use Rattle.semantics.specs.Accounts.{Account, settled, goal, least}
+use Rattle.netlist.specs.Gates.{Circuit}
 use Rattle.semantics.specs.Circuits.{lines, topology, gate_of_line, Wired}
 use Rattle.semantics.specs.Laws.{InOrder}
 use Rattle.semantics.specs.Machines.{IsGate, IsLine}
@@ -90,5 +91,9 @@ module _ {V M : Type 0} (meaning : V → M) (system : System M) (p : Panel) (sto
 pub line_of : (p : Panel) (n : ℕ) → (0 < n) × (n ≤ lines p.circuit) → IsLine (topology p.circuit) n
 line_of p n range = a_line p.circuit n range.0 range.1
 
+-- lines are numbered from 1
+pub positive : (c : Circuit) (n : ℕ) → IsLine (topology c) n → 0 < n
+positive c n line = ⊎_elim (λ an_input. let r = input_range c n an_input in omega (arith, r.0)) (λ a_gate. let r = gate_range c n a_gate in omega (arith, r.0)) line
+
 pub of_line : (p : Panel) (n : ℕ) → IsLine (topology p.circuit) n → (0 < n) × (n ≤ lines p.circuit)
-of_line p n line = (⊎_elim (λ an_input. let r = input_range p.circuit n an_input in omega (arith, r.0)) (λ a_gate. let r = gate_range p.circuit n a_gate in omega (arith, r.0)) line, line_range p.circuit n line)
+of_line p n line = (positive p.circuit n line, line_range p.circuit n line)

@@ -1,5 +1,5 @@
 -- One line comes further, and its records are written: what lines and their records show then.
-use Rattle.std.proofs.Common.{◌≡◌, ℕ, ◌-◌, ◌*◌, ◌<◌, List, map, drop, ap, sym, ◌∙◌, subst, ⊎_elim, arith}
+use Rattle.std.proofs.Common.{◌≡◌, ℕ, ◌-◌, ◌*◌, List, map, drop, ap, sym, ◌∙◌, subst, ⊎_elim, arith}
 use mathlib.Core.Path.{ap₂}
 use Rattle.std.proofs.lemmas.Bool.{cases_eq}
 use Rattle.events.specs.declared.record.EventRecord.{EventRecord}
@@ -9,16 +9,13 @@ use Rattle.semantics.specs.Circuits.{lines, topology}
 use Rattle.semantics.specs.Machines.{Machine, IsInput, IsGate, IsLine}
 use Rattle.semantics.specs.Moves.{put}
 use Rattle.semantics.proofs.Putting.{put_here, put_there}
-use Rattle.semantics.proofs.Wiring.{input_range, gate_range, line_range}
+use Rattle.semantics.proofs.Wiring.{line_range}
 use Rattle.values.specs.Systems.{System}
 use Rattle.engine.specs.Lines.{Panel, moved, extent, Holds}
 use Rattle.engine.specs.Standing.{Tells, machine_of, Shows, Keeps}
 use Rattle.engine.specs.Stores.{part, seen, OnlyThere}
+use Rattle.engine.proofs.Books.{positive}
 use Rattle.engine.proofs.Parts.{part_else, later, ends_within}
-
--- lines are numbered from 1
-pub positive : (p : Panel) (n : ℕ) → IsLine (topology p.circuit) n → 0 < n
-positive p n line = ⊎_elim (λ an_input. let r = input_range p.circuit n an_input in omega (arith, r.0)) (λ a_gate. let r = gate_range p.circuit n a_gate in omega (arith, r.0)) line
 
 module _ {V M : Type 0} (meaning : V → M) (system : System M) (p : Panel) (old new : List (EventRecord V)) (a b : Account M) (n : ℕ) (x : Progress) (h : Shows meaning system p old a) (line : IsLine (topology p.circuit) n) (there : OnlyThere ((n - 1) * p.stride) p.stride old new) where
   abbrev s : Machine M
@@ -58,7 +55,7 @@ module _ {V M : Type 0} (meaning : V → M) (system : System M) (p : Panel) (old
       else_records : (m : ℕ) → IsLine s.topology m → (m ≡ n → ⊥) → Tells s system.start b m (settled s.topology b m) (put p.progress n x m).kept (map (seen meaning) (part p.stride m new))
       else_records m a_line other =
           subst (λ (q : Progress). Tells s system.start b m (settled s.topology b m) q.kept (map (seen meaning) (part p.stride m new))) (sym (put_there p.progress n x m other))
-          (subst (λ rs. Tells s system.start b m (settled s.topology b m) (p.progress m).kept (map (seen meaning) rs)) (sym (part_else p.stride n old new (positive p n line) there m (positive p m a_line) other))
+          (subst (λ rs. Tells s system.start b m (settled s.topology b m) (p.progress m).kept (map (seen meaning) rs)) (sym (part_else p.stride n old new (positive p.circuit n line) there m (positive p.circuit m a_line) other))
           (others.records m (p.progress m).kept (map (seen meaning) (part p.stride m old)) a_line other (h.records m a_line)))
 
 -- what no call alters stays where one line moves
@@ -67,7 +64,7 @@ keeps_moved p q n x old new same line there = record {
   circuit = ap (λ (o : Panel). o.circuit) same;
   stride = ap (λ (o : Panel). o.stride) same;
   same_length = there.same_length;
-  beyond = later p.stride n old new (positive p n line) there (extent p) (ends_within p.stride (lines p.circuit) n (positive p n line) (line_range p.circuit n line));
+  beyond = later p.stride n old new (positive p.circuit n line) there (extent p) (ends_within p.stride (lines p.circuit) n (positive p.circuit n line) (line_range p.circuit n line));
 }
 
 pub keeps_on : {X : Type 0} (p q r : Panel) (old mid new : List X) → Keeps p q old mid → Keeps q r mid new → Keeps p r old new

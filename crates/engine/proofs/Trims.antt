@@ -19,8 +19,7 @@ use Rattle.engine.specs.Lines.{Panel, moved}
 use Rattle.engine.specs.Recordings.{DroppedIn}
 use Rattle.engine.specs.Standing.{Tells, machine_of, Stands, Keeps}
 use Rattle.engine.specs.Stores.{part, seen, OnlyThere}
-use Rattle.engine.proofs.Books.{of_line}
-use Rattle.engine.proofs.Moving.{positive}
+use Rattle.engine.proofs.Books.{positive, of_line}
 use Rattle.engine.proofs.Parts.{part_else}
 use Rattle.std.proofs.lemmas.Bool.{cases_eq}
 use Rattle.engine.proofs.Reading.{Splits, changes_from}
@@ -76,7 +75,7 @@ module _ {V M : Type 0} (meaning : V → M) (system : System M) (filler : V) (st
   }
     where
       some : 0 < n
-      some = positive p n line
+      some = positive p.circuit n line
 
       told : Tells (machine_of system p) system.start (trimmed a t) n (settled (topology p.circuit) a n) x.kept (map (seen meaning) (part q.stride n new))
       told =
@@ -92,7 +91,7 @@ module _ {V M : Type 0} (meaning : V → M) (system : System M) (filler : V) (st
       elsewhere : (m : ℕ) (b : Account M) → IsLine (topology p.circuit) m → (m ≡ n → ⊥) → Tells (machine_of system p) system.start b m (settled (topology p.circuit) a m) (q.progress m).kept (map (seen meaning) (part q.stride m old)) → Tells (machine_of system p) system.start b m (settled (topology p.circuit) a m) (put q.progress n x m).kept (map (seen meaning) (part q.stride m new))
       elsewhere m b a_line other tells =
           subst (λ (r : Progress). Tells (machine_of system p) system.start b m (settled (topology p.circuit) a m) r.kept (map (seen meaning) (part q.stride m new))) (sym (put_there q.progress n x m other))
-          (subst (λ rs. Tells (machine_of system p) system.start b m (settled (topology p.circuit) a m) (q.progress m).kept (map (seen meaning) rs)) (sym (part_else q.stride n old new some there m (positive p m a_line) other)) tells)
+          (subst (λ rs. Tells (machine_of system p) system.start b m (settled (topology p.circuit) a m) (q.progress m).kept (map (seen meaning) rs)) (sym (part_else q.stride n old new some there m (positive p.circuit m a_line) other)) tells)
 
 -- all lines are told from the tick on
 module _ {V M : Type 0} (meaning : V → M) (system : System M) (p q : Panel) (store new : List (EventRecord V)) (a : Account M) (h : Stands meaning system p store a) (t : ℕ) (reaches : a.trim ≤ t) (upto : (n : ℕ) → (0 < n) × (n ≤ lines p.circuit) → t ≤ (p.progress n).tick) where

@@ -9,7 +9,7 @@ use netlist::row::GateRow;
 // What a session knows of its lines, apart from their records: the netlist, whose rows tell how far the gates have come,
 // how far the inputs have come, the tick from which on changes are kept, and how many records each line has.
 #[derive(Drop)]
-pub struct Lines {
+pub(crate) struct Lines {
     pub netlist: Netlist,
     pub inputs: [Progress; 256],
     pub trim: u32,
@@ -26,14 +26,14 @@ impl Lines {
     ghost use Rattle.semantics.specs.Machines.{IsInput, IsGate};
 
     // Whether there is such a line.
-    pub fn has(&self, line: u32) -> bool
+    pub(crate) fn has(&self, line: u32) -> bool
         ensures { Decides result (IsLineOf (panel self.now) line) }
     {
         (1..=self.netlist.lines()).contains(&(line as usize))
     }
 
     // How far an input has come.
-    pub fn input(&self, line: u32) -> Option<Progress>
+    pub(crate) fn input(&self, line: u32) -> Option<Progress>
         ensures { MatchOption result (IsInput (topology (panel self.now).circuit) line → ⊥) (λ progress. IsInput (topology (panel self.now).circuit) line × (progress ≡ (panel self.now).progress line)) }
     {
         let place = (line as usize).checked_sub(1)?;
@@ -41,7 +41,7 @@ impl Lines {
     }
 
     // The row of a gate's line.
-    pub fn gate(&self, line: u32) -> Option<GateRow>
+    pub(crate) fn gate(&self, line: u32) -> Option<GateRow>
         ensures told { MatchOption result (IsGate (topology (panel self.now).circuit) line → ⊥) (λ row. IsGate (topology (panel self.now).circuit) line × (row.gate ≡ gate_of_line (panel self.now).circuit line) × (row.progress ≡ (panel self.now).progress line)) }
         ensures marked { IfSome result (λ row. (row.looped ≡ true → ∥ Looped (panel self.now).circuit line ∥₁) × (Looped (panel self.now).circuit line → row.looped ≡ true)) }
     {
@@ -49,7 +49,7 @@ impl Lines {
     }
 
     // How far a line has come.
-    pub fn progress(&self, line: u32) -> Progress
+    pub(crate) fn progress(&self, line: u32) -> Progress
         requires { IsLineOf (panel self.now) line }
         ensures { result ≡ (panel self.now).progress line }
     {
@@ -60,7 +60,7 @@ impl Lines {
     }
 
     // How far a line is settled.
-    pub fn settled(&self, line: u32) -> u32
+    pub(crate) fn settled(&self, line: u32) -> u32
         requires { IsLineOf (panel self.now) line }
         ensures { result ≡ min (settled_in (panel self.now) line) last_tick }
     {
@@ -71,7 +71,7 @@ impl Lines {
     }
 
     // The goal of a gate, the least settled time of the lines that it reads.
-    pub fn goal(&self, row: &GateRow) -> u32
+    pub(crate) fn goal(&self, row: &GateRow) -> u32
         requires { (m : ℕ) → Contains row.now.gate.reads m → IsLineOf (panel self.now) m }
         ensures { result ≡ fold min last_tick (map (settled_in (panel self.now)) row.now.gate.reads) }
     {
@@ -83,7 +83,7 @@ impl Lines {
     }
 
     // A line that has not come up to a tick, if there is one.
-    pub fn behind(&self, tick: u32) -> Option<u32>
+    pub(crate) fn behind(&self, tick: u32) -> Option<u32>
         ensures { MatchOption result ((n : ℕ) → IsLineOf (panel self.now) n → tick ≤ ((panel self.now).progress n).tick) (λ n. IsLineOf (panel self.now) n × (((panel self.now).progress n).tick < tick)) }
     {
         for place in 0..self.netlist.lines() {
@@ -96,7 +96,7 @@ impl Lines {
     }
 
     // Tells how far a line has come, and nothing of the others.
-    pub fn advance(&mut self, line: u32, progress: Progress)
+    pub(crate) fn advance(&mut self, line: u32, progress: Progress)
         requires a_line { IsLineOf (panel self.old) line }
         requires fits { progress.kept < self.old.stride }
         ensures { panel self.new ≡ moved (panel self.old) line progress }
@@ -110,7 +110,7 @@ impl Lines {
     }
 
     // Where the records of a line begin.
-    pub fn place(&self, line: u32) -> usize
+    pub(crate) fn place(&self, line: u32) -> usize
         requires a_line { IsLineOf (panel self.now) line }
         requires few { extent (panel self.now) ≤ 18446744073709551615 }
         ensures begins { result ≡ (line - 1) * self.now.stride }

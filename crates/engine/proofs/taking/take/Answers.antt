@@ -9,15 +9,15 @@ use Rattle.semantics.specs.Machines.{IsGate}
 use Rattle.semantics.specs.Moves.{taken}
 use Rattle.semantics.proofs.Goals.{goal_each}
 use Rattle.semantics.proofs.Putting.{put_here}
-use Rattle.semantics.proofs.Wiring.{gate_range, gate_delay, line_range, sound}
+use Rattle.semantics.proofs.Wiring.{gate_range, gate_delay, sound}
 use Rattle.engine.specs.declared.lines.Lines.{Lines}
 use Rattle.engine.specs.Answers.{Taking}
 use Rattle.engine.specs.Lines.{Panel, panel, last_tick}
 use Rattle.engine.specs.Looks.{Stepped, Followed}
 use Rattle.engine.specs.Standing.{Stands}
-use Rattle.engine.proofs.Books.{sure, in_order, goal_in_range, goal_told}
+use Rattle.engine.proofs.Books.{of_line, sure, in_order, goal_in_range, goal_told}
 use Rattle.engine.proofs.Ways.{refused, went_onward, limits_on}
-use Rattle.engine.proofs.Moving.{positive, keeps_moved, keeps_on}
+use Rattle.engine.proofs.Moving.{keeps_moved, keeps_on}
 use Rattle.engine.proofs.Stepping.{same_reads}
 use Rattle.engine.proofs.Takes.{take_done}
 use Rattle.engine.proofs.taking.take.Goals as goal
@@ -28,7 +28,7 @@ goal-goal-requires g c m read =
     let p = panel l in
     let row = c.in-Some.ensures.told in
     let line = (sound p.circuit (sure l).wired).reads_lines c.args.line m row.0 (subst (λ ms. Contains ms m) (sym (same_reads p.circuit c.args.line row.0 ∙ ap (λ (x : Gate). x.reads) (sym row.1))) read) in
-    (positive p m line, line_range p.circuit m line)
+    of_line p m line
 
 pub returns-in_default-clause-answers : goal.returns-in_default-clause-answers
 returns-in_default-clause-answers g c a h = (a, Taking.no_gate c.in_default.ensures.told, h)

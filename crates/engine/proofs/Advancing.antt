@@ -1,5 +1,5 @@
 -- One line comes further.
-use Rattle.std.proofs.Common.{◌≡◌, ℕ, zero, suc, ◌-◌, ◌<◌, ◌≤◌, ltb, List, length, set, get_or, ap, sym, ◌∙◌, subst, ⊎_elim, arith}
+use Rattle.std.proofs.Common.{◌≡◌, ℕ, zero, suc, ◌-◌, ◌<◌, ◌≤◌, ltb, List, length, replicate, set, get_or, refl, ap, sym, ◌∙◌, subst, ⊎_elim, arith}
 use Rattle.std.proofs.Math.Path.{fun_ext}
 use Rattle.std.proofs.lemmas.Bool.{cases_eq, cases_lt, lt-ltb, le-ltb, cond-true, cond-false}
 use Rattle.std.proofs.lemmas.List.{get_or-set_same, get_or-set_other}
@@ -63,3 +63,16 @@ gate_moved netlist after inputs n x same past told others = fun_ext each
 pub still_fit : (netlist after : Netlist) (inputs later : List Progress) (stride n : ℕ) (x : Progress) → circuit after ≡ circuit netlist → progress_in after later ≡ put (progress_in netlist inputs) n x → x.kept < stride → KeptFit netlist inputs stride → KeptFit after later stride
 still_fit netlist after inputs later stride n x same moved fits old m some within =
     subst (λ (f : ℕ → Progress). (f m).kept < stride) (sym moved) (put_where (λ p. p.kept < stride) (progress_in netlist inputs) n x m fits (old m some (subst (λ c. m ≤ lines c) same within)))
+
+-- where no gate has come further than tick 0, and no input has, no line has
+pub all_at_start : (netlist : Netlist) (count : ℕ) → ((n : ℕ) → progress_of netlist n ≡ at_start) → progress_in netlist (replicate count at_start) ≡ λ n. at_start
+all_at_start netlist count told = fun_ext each
+  where
+    filled : (n k : ℕ) → get_or (replicate n at_start) k at_start ≡ at_start
+    filled zero k = refl
+    filled (suc n) zero = refl
+    filled (suc n) (suc k) = filled n k
+
+    each : (n : ℕ) → progress_in netlist (replicate count at_start) n ≡ at_start
+    each zero = refl
+    each (suc k) = ⊎_elim (λ an_input. at_input netlist (replicate count at_start) k an_input ∙ filled count k) (λ past. at_gate netlist (replicate count at_start) k past ∙ told (suc k)) (cases_lt k (circuit netlist).inputs)

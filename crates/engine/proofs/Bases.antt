@@ -1,5 +1,5 @@
 -- The bases of lines that have begun.
-use Rattle.std.proofs.Common.{◌≡◌, ℕ, ◌+◌, ◌-◌, ◌*◌, ◌<◌, List, ◌∷◌, length, replicate, set, drop, get_or, get_or-take, get_or-drop, get_or-set_same, length-set, ap, sym, ◌∙◌, subst, ⊎_elim, arith}
+use Rattle.std.proofs.Common.{◌≡◌, ℕ, ◌+◌, ◌-◌, ◌*◌, ◌<◌, ◌≤◌, List, ◌∷◌, length, replicate, set, drop, get_or, get_or-take, get_or-drop, get_or-set_same, length-set, ap, sym, ◌∙◌, subst, ⊎_elim, arith}
 use Rattle.std.proofs.lemmas.Bool.{cases_eq}
 use Rattle.events.specs.declared.record.EventRecord.{EventRecord}
 use Rattle.netlist.specs.Gates.{Circuit}
@@ -22,6 +22,10 @@ module _ {V : Type 0} (filler : V) (stride : ℕ) (some : 0 < stride) where
       ap (λ (r : EventRecord V). r.value)
       (ap (λ i. get_or store i (at_zero filler)) place
       ∙ sym (get_or-take stride (drop ((n - 1) * stride) store) 0 (at_zero filler) some ∙ get_or-drop ((n - 1) * stride) store 0 (at_zero filler)))
+
+  -- a line that has begun with a value has it in its base
+  pub base_begun : (store : List (EventRecord V)) (n : ℕ) (v : V) → part stride n store ≡ begun (part stride n store) v filler → base filler stride store n ≡ v
+  base_begun store n v is = base_in_part store n ∙ ap (λ rs. (get_or rs 0 (at_zero filler)).value) is
 
   -- one line gets another value at its base
   module _ (old new : List (EventRecord V)) (line : ℕ) (value : V) (there : OnlyThere ((line - 1) * stride) stride old new) (written : part stride line new ≡ set (part stride line old) 0 (record { tick = 0; value = value })) (a_part : length (part stride line old) ≡ stride) (numbered : 0 < line) where
@@ -56,3 +60,26 @@ module _ {V : Type 0} (filler : V) (stride : ℕ) (some : 0 < stride) where
             let stays = part_else stride line old new numbered there m low other in
             subst (λ rs. rs ≡ begun rs (base filler stride new m) filler) (sym stays)
             (subst (λ v. part stride m old ≡ begun (part stride m old) v filler) (sym (base_else m low other)) (begins m is_line))
+
+module _ {V : Type 0} (filler : V) (stride : ℕ) (f : ℕ → V) (c : Circuit) where
+  -- the lines up to one have begun with given values
+  abbrev pub BegunTo : List (EventRecord V) → ℕ → Type 0
+  BegunTo store k = (n : ℕ) → IsLine (topology c) n → n ≤ k → part stride n store ≡ begun (part stride n store) (f n) filler
+
+  pub begun_none : (store : List (EventRecord V)) → BegunTo store 0
+  begun_none store n is_line upto = let low = positive c n is_line in absurd (omega arith)
+
+  -- one line more begins
+  pub begun_more : (old new : List (EventRecord V)) (k : ℕ) → OnlyThere (k * stride) stride old new → length (part stride (k + 1) old) ≡ length (part stride (k + 1) new) → part stride (k + 1) new ≡ begun (part stride (k + 1) old) (f (k + 1)) filler → BegunTo old k → BegunTo new (k + 1)
+  begun_more old new k there as_long written begins m is_line upto = ⊎_elim here else_ (cases_eq m (k + 1))
+    where
+      here : m ≡ k + 1 → part stride m new ≡ begun (part stride m new) (f m) filler
+      here same =
+          subst (λ j. part stride j new ≡ begun (part stride j new) (f j) filler) (sym same)
+          (written ∙ ap (λ j. record { tick = 0; value = f (k + 1) } ∷ replicate (j - 1) (record { tick = 0; value = filler })) as_long)
+
+      else_ : (m ≡ k + 1 → ⊥) → part stride m new ≡ begun (part stride m new) (f m) filler
+      else_ other =
+          let place : k ≡ k + 1 - 1 = omega arith in
+          let stays = part_else stride (k + 1) old new (omega arith) (subst (λ j. OnlyThere (j * stride) stride old new) place there) m (positive c m is_line) other in
+          subst (λ rs. rs ≡ begun rs (f m) filler) (sym stays) (begins m is_line (omega (arith, other)))

@@ -26,6 +26,15 @@ pub unmoved : {M : Type 0} (s : System M) (c : Circuit) (line : ℕ) (b : ℕ �
 unmoved s c line b own = record { its_own = own; looped = λ gate loop. refl; no_gate = λ none. refl; others = λ n is_line other. refl }
 
 module _ {M : Type 0} (s : System M) (c : Circuit) (wired : Wired c) (start : ℕ → M) where
+  -- where inputs begin as given and gates' lines with START, inputs and looped lines are right
+  pub right_at_first : (b : ℕ → M) → ((n : ℕ) → IsInput (topology c) n → b n ≡ start n) → ((n : ℕ) → IsGate (topology c) n → b n ≡ s.start) → RightTo s c start 0 b
+  right_at_first b inputs gates n is_line shallow = ⊎_elim
+      (λ an_input. inputs n an_input ∙ sym ((begins s c wired start).at_inputs n an_input))
+      (λ a_gate.
+      ⊎_elim (λ loop. gates n a_gate ∙ sym ((begins s c wired start).at_looped n a_gate (looped_walks c n loop))) (λ told. let low = shallow a_gate (not_looped c n told) in absurd (omega arith))
+      (cases_Bool (looped c n)))
+      is_line
+
   module _ (k line : ℕ) (b b' : ℕ → M) (right : RightTo s c start k b) (h : SettledAt s c line b b') where
     -- the line itself is right, if it is at most so deep
     pub here : IsLine (topology c) line → (IsGate (topology c) line → (Looped c line → ⊥) → depth c line < suc k) → b' line ≡ initial s c start line

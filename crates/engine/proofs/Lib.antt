@@ -7,6 +7,7 @@ pub mod Folding
 pub mod Following
 pub mod Gifts
 pub mod Least
+pub mod Made
 pub mod Motions
 pub mod Moving
 pub mod Parts

@@ -25,7 +25,7 @@ use Rattle.std.proofs.lemmas.Bool.{cases_eq}
 use Rattle.engine.proofs.Reading.{Splits, changes_from}
 use Rattle.engine.proofs.Telling.{in_order, value_told, splits_at, changes_told}
 
-map_replicate : {A B : Type 0} (f : A → B) (x : A) (n : ℕ) → map f (replicate n x) ≡ replicate n (f x)
+pub map_replicate : {A B : Type 0} (f : A → B) (x : A) (n : ℕ) → map f (replicate n x) ≡ replicate n (f x)
 map_replicate f x zero = refl
 map_replicate f x (suc n) = ap (λ l. f x ∷ l) (map_replicate f x n)
 

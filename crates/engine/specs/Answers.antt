@@ -1,7 +1,9 @@
 -- What the calls of a session answer, and what account it stands for then.
-use Rattle.std.specs.Prelude.{◌≡◌, ℕ, ◌+◌, ◌<◌, ◌≤◌, List, length, slice_get, Ok, Err, Result, Some}
+use Rattle.std.specs.Prelude.{◌≡◌, ℕ, ◌+◌, ◌*◌, ◌<◌, ◌≤◌, ◌≢◌, List, length, slice_get, Ok, Err, Result, Some}
 use Rattle.netlist.specs.declared.refusal.Refusal.{Refusal}
 use Rattle.netlist.specs.Refusals.{number}
+use Rattle.netlist.specs.Gates.{Circuit}
+use Rattle.semantics.specs.Circuits.{lines}
 use Rattle.semantics.specs.Accounts.{Account, settled, goal, value, Stable, KeptChanges, Overflows}
 use Rattle.semantics.specs.Changes.{AtMost}
 use Rattle.semantics.specs.Logs as Logs
@@ -18,6 +20,13 @@ numbered (Err r) = Err (number r)
 abbrev pub answered : {X Y : Type 0} → (X → Y) → Result X Refusal → Result Y ℕ
 answered see (Ok x) = Ok (see x)
 answered see (Err r) = Err (number r)
+
+-- making a session of a netlist, with so many records and so many initial values
+pub data Making (c : Circuit) (records starts : ℕ) : Result Unit ℕ → Type 0 where
+  no_lines : lines c ≡ 0 → Making c records starts (Err 8)
+  few_records : 0 < lines c → records < 2 * lines c → Making c records starts (Err 10)
+  other_starts : 0 < lines c → 2 * lines c ≤ records → (starts ≢ c.inputs) → Making c records starts (Err 11)
+  accepted : 0 < lines c → 2 * lines c ≤ records → starts ≡ c.inputs → Making c records starts (Ok tt)
 
 module _ {M : Type 0} (s : Machine M) (a : Account M) where
   -- taking a gate answers how far its line is settled then

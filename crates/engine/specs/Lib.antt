@@ -6,5 +6,6 @@ pub mod Makings
 pub mod Orders
 pub mod Progresses
 pub mod Recordings
+pub mod Sessions
 pub mod Standing
 pub mod Stores

@@ -8,5 +8,6 @@ mod lines;
 mod making;
 mod records;
 mod running;
+mod session;
 mod taking;
 mod trimming;

@@ -1,6 +1,7 @@
 // The lines of a session.
-ghost use Rattle.std.specs.Prelude.{◌≡◌, length};
+ghost use Rattle.std.specs.Prelude.{◌≡◌, length, replicate};
 ghost use Rattle.engine.specs.Progresses.{KeptFit};
+ghost use Rattle.netlist.specs.GateRow.{at_start};
 
 use netlist::closed::Netlist;
 use netlist::progress::Progress;
@@ -18,12 +19,34 @@ pub(crate) struct Lines {
     ghost kept_fit: { KeptFit netlist inputs stride },
 }
 
+// Inputs that have not come further than tick 0.
+fn not_moved() -> [Progress; 256]
+    ensures { result ≡ replicate 256 at_start }
+{
+    [Progress { tick: 0, kept: 0 }; 256]
+}
+
 impl Lines {
     ghost use Rattle.std.specs.Prelude.{ℕ, ◌-◌, ◌+◌, ◌*◌, ◌<◌, ◌≤◌, ◌≢◌, min, true, Contains, fold, map, Decides, MatchOption, IfSome};
+    ghost use Rattle.netlist.specs.Closed.{circuit};
     ghost use Rattle.netlist.specs.Walks.{Looped};
     ghost use Rattle.engine.specs.Lines.{panel, moved, settled_in, extent, last_tick, IsLineOf};
     ghost use Rattle.semantics.specs.Circuits.{lines, gate_of_line, topology};
     ghost use Rattle.semantics.specs.Machines.{IsInput, IsGate};
+
+    // The lines of a netlist at tick 0, with so many records each.
+    pub(crate) fn new(mut netlist: Netlist, stride: usize) -> Lines
+        requires { 0 < stride }
+        ensures { panel result ≡ record { circuit = circuit netlist; stride = stride; trim = 0; progress = λ n. at_start } }
+    {
+        netlist.rewind();
+        Lines {
+            netlist,
+            inputs: not_moved(),
+            trim: 0,
+            stride,
+        }
+    }
 
     // Whether there is such a line.
     pub(crate) fn has(&self, line: u32) -> bool

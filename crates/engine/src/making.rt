@@ -1,18 +1,37 @@
 // How lines begin.
-ghost use Rattle.std.specs.Prelude.{◌≡◌, ℕ, suc, Contains, map, false};
+ghost use Rattle.std.specs.Prelude.{◌≡◌, ℕ, suc, Contains, length, map, false, slice_index_or};
 ghost use Rattle.engine.specs.Lines.{panel, Holds, IsLineOf};
-ghost use Rattle.engine.specs.Makings.{base, AllBegun, SettledAt, RightTo, AllRight};
+ghost use Rattle.engine.specs.Makings.{given, base, AllBegun, SettledAt, RightTo, AllRight};
 ghost use Rattle.engine.specs.Standing.{Keeps};
 ghost use Rattle.gates.specs.Functions.{combined, finished, gate_function};
 ghost use Rattle.semantics.specs.Circuits.{Wired};
 
 use crate::lines::Lines;
-use crate::records::rebase;
+use crate::records::{begin, rebase};
 use events::record::EventRecord;
 use gates::{combine, finish};
 use netlist::kind::Kind;
 use netlist::row::GateRow;
 use values::system::ValueSystem;
+
+// The value given for a line to begin with, or START.
+fn start_of<V: ValueSystem>(starts: &[V], place: usize) -> V
+    ensures { result ≡ slice_index_or starts.now place V.START }
+{
+    starts.get(place).copied().unwrap_or(V::START)
+}
+
+// Begins every input's line with the value given for it, and every gate's line with START.
+pub(crate) fn begin_all<V: ValueSystem>(lines: &Lines, store: &mut [EventRecord<V>], starts: &[V])
+    requires { Holds (panel lines.now) store.old }
+    ensures keeps { Keeps (panel lines.now) (panel lines.now) store.old store.new }
+    ensures begun { AllBegun V.START lines.now.stride store.new (panel lines.now).circuit }
+    ensures right { length starts.now ≡ (panel lines.now).circuit.inputs → RightTo V.system (panel lines.now).circuit (given V.meaning V.START starts.now) 0 (λ n. V.meaning (base V.START lines.now.stride store.new n)) }
+{
+    for place in 0..lines.netlist.lines() {
+        begin(lines, store, place as u32 + 1, start_of(starts, place));
+    }
+}
 
 // What a line begins with, as its base tells.
 fn base_of<V: ValueSystem>(lines: &Lines, store: &[EventRecord<V>], line: u32) -> V
@@ -80,7 +99,7 @@ fn pass<V: ValueSystem>(lines: &Lines, store: &mut [EventRecord<V>]) -> bool
 }
 
 // Settles what all gates' lines begin with, where inputs and looped lines have begun.
-fn settle_all<V: ValueSystem>(lines: &Lines, store: &mut [EventRecord<V>])
+pub(crate) fn settle_all<V: ValueSystem>(lines: &Lines, store: &mut [EventRecord<V>])
     requires { Holds (panel lines.now) store.old }
     ensures keeps { Keeps (panel lines.now) (panel lines.now) store.old store.new }
     ensures begun { AllBegun V.START lines.now.stride store.old (panel lines.now).circuit → AllBegun V.START lines.now.stride store.new (panel lines.now).circuit }

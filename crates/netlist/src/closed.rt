@@ -33,7 +33,7 @@ impl Netlist {
     ghost use Rattle.netlist.specs.Gates.{nothing};
 
     // The netlist without lines.
-    pub(crate) fn empty() -> Netlist
+    pub fn empty() -> Netlist
         ensures { circuit result ≡ nothing }
     {
         Netlist {

@@ -15,6 +15,7 @@ pub mod Reading
 pub mod Recordings
 pub mod Retelling
 pub mod Runs
+pub mod Sessions
 pub mod Stepping
 pub mod Takes
 pub mod Telling

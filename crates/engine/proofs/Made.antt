@@ -1,5 +1,5 @@
 -- Lines that have begun show a made account.
-use Rattle.std.proofs.Common.{◌≡◌, ℕ, suc, ◌-◌, ◌*◌, ◌/◌, ◌<◌, ◌≤◌, List, [], ◌∷◌, length, map, take, drop, replicate, Ok, Err, refl, ap, sym, ◌∙◌, subst, arith}
+use Rattle.std.proofs.Common.{◌≡◌, ℕ, ◌-◌, ◌*◌, ◌/◌, ◌<◌, ◌≤◌, List, [], ◌∷◌, length, map, take, drop, replicate, Ok, Err, refl, ap, sym, ◌∙◌, subst, arith}
 use mathlib.Core.Path.{ap₂}
 use Rattle.std.specs.Prelude.{Result}
 use Rattle.std.proofs.Math.Nat.{le-div_iff_mul-le, mul-div-le}
@@ -8,10 +8,9 @@ use Rattle.netlist.specs.declared.refusal.Refusal.{Refusal}
 use Rattle.netlist.specs.Gates.{Circuit, nothing}
 use Rattle.netlist.specs.declared.progress.Progress.{Progress}
 use Rattle.netlist.specs.GateRow.{at_start}
-use Rattle.semantics.specs.Accounts.{before, settled}
+use Rattle.semantics.specs.Accounts.{settled}
 use Rattle.semantics.specs.Changes.Changes.{none}
 use Rattle.semantics.specs.Circuits.{lines, topology, Wired}
-use Rattle.semantics.specs.CircuitMachine.{rule}
 use Rattle.semantics.specs.Computed.{initial}
 use Rattle.semantics.specs.Logs.{Steps}
 use Rattle.semantics.specs.Machines.{IsLine}

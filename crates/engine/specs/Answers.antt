@@ -7,6 +7,7 @@ use Rattle.semantics.specs.Circuits.{lines}
 use Rattle.semantics.specs.Accounts.{Account, settled, goal, value, Stable, KeptChanges, Overflows}
 use Rattle.semantics.specs.Changes.{AtMost}
 use Rattle.semantics.specs.Logs as Logs
+use Rattle.engine.specs.declared.asking.LineState.{LineState}
 use Rattle.engine.specs.declared.running.Ending.{Ending}
 use Rattle.semantics.specs.Machines.{Machine, IsInput, IsGate, IsLine}
 use Rattle.semantics.specs.Moves.{fed, held, taken, trimmed, CanFeed, CanHold, CanTake, CanTrim}
@@ -20,6 +21,10 @@ numbered (Err r) = Err (number r)
 abbrev pub answered : {X Y : Type 0} → (X → Y) → Result X Refusal → Result Y ℕ
 answered see (Ok x) = Ok (see x)
 answered see (Err r) = Err (number r)
+
+-- what a line's state tells
+abbrev pub stated : LineState → ℕ × ℕ
+stated state = (state.settled, state.kept)
 
 -- making a session of a netlist, with so many records and so many initial values
 pub data Making (c : Circuit) (records starts : ℕ) : Result Unit ℕ → Type 0 where

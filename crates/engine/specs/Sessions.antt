@@ -2,12 +2,36 @@
 use Rattle.std.specs.Prelude.{◌≡◌, ℕ, ◌/◌, List, Ok, Err, Result, length, drop}
 use Rattle.events.specs.declared.record.EventRecord.{EventRecord}
 use Rattle.netlist.specs.Gates.{Circuit, nothing}
+use Rattle.semantics.specs.Accounts.{Account}
 use Rattle.semantics.specs.Circuits.{lines}
+use Rattle.semantics.specs.Machines.{Machine}
 use Rattle.semantics.specs.Moves.{made}
 use Rattle.values.specs.Systems.{System}
-use Rattle.engine.specs.Lines.{Panel, extent}
+use Rattle.engine.specs.declared.session.Session.{Session}
+use Rattle.engine.specs.Lines.{Panel, panel, extent}
 use Rattle.engine.specs.Makings.{given}
-use Rattle.engine.specs.Standing.{Stands}
+use Rattle.engine.specs.Standing.{machine_of, Stands, Keeps}
+
+-- the lines of a session
+abbrev pub lines_of : {V : Type 0} → Session V → Panel
+lines_of s = panel s.lines
+
+-- it has none
+abbrev pub HasNoLines : {V : Type 0} → Session V → Type 0
+HasNoLines s = lines (lines_of s).circuit ≡ 0
+
+-- the machine of a session
+abbrev pub machine_in : {V M : Type 0} → System M → Session V → Machine M
+machine_in system s = machine_of system (lines_of s)
+
+-- a session stands for an account
+abbrev pub StandsFor : {V M : Type 0} → (V → M) → System M → Session V → Account M → Type 0
+StandsFor meaning system s a = Stands meaning system (lines_of s) s.store.now a
+
+-- What no call alters: which store was lent, the circuit, how many records each line has, and the records beyond those.
+pub record KeepsItsOwn {V : Type 0} (s s' : Session V) : Type 0 where
+  pub same_store : s'.store.ghost_name ≡ s.store.ghost_name
+  pub keeps : Keeps (lines_of s) (lines_of s') s.store.now s'.store.now
 
 module _ {V M : Type 0} (meaning : V → M) (system : System M) (filler : V) where
   -- A session that was just made has the lines of the netlist, each with as many records as there are for it in the store. It

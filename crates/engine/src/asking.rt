@@ -1,6 +1,6 @@
 // What is asked of lines and their records.
 ghost use Rattle.std.specs.Prelude.{◌≡◌};
-ghost use Rattle.engine.specs.Answers.{answered, Valued, Eventful, Stated};
+ghost use Rattle.engine.specs.Answers.{answered, stated, Valued, Eventful, Stated};
 ghost use Rattle.engine.specs.Lines.{panel, Holds};
 ghost use Rattle.engine.specs.Standing.{machine_of, Stands};
 ghost use Rattle.engine.specs.Stores.{seen};
@@ -69,7 +69,7 @@ pub(crate) fn state<V: ValueSystem>(
     line: u32,
 ) -> Result<LineState, Refusal>
     requires { Holds (panel lines.now) store.now }
-    ensures { (a : Account V.Sense) → Stands V.meaning V.system (panel lines.now) store.now a → Stated (machine_of V.system (panel lines.now)) a line (answered (λ state. (state.settled, state.kept)) result) }
+    ensures { (a : Account V.Sense) → Stands V.meaning V.system (panel lines.now) store.now a → Stated (machine_of V.system (panel lines.now)) a line (answered stated result) }
 {
     if !lines.has(line) {
         return Err(Refusal::Line);

@@ -2,8 +2,13 @@
 ghost use Rattle.std.specs.Prelude.{◌≡◌, length};
 ghost use Rattle.engine.specs.Lines.{panel, Holds};
 
+use crate::asking::{self, LineState};
+use crate::giving;
 use crate::lines::Lines;
 use crate::making::{begin_all, settle_all};
+use crate::running::{self, Ran};
+use crate::taking;
+use crate::trimming;
 use events::record::EventRecord;
 use netlist::closed::Netlist;
 use netlist::refusal::Refusal;
@@ -18,9 +23,13 @@ pub struct Session<'a, V> {
 }
 
 impl<'a, V: ValueSystem> Session<'a, V> {
-    ghost use Rattle.std.specs.Prelude.{ℕ, OnErr, Result};
-    ghost use Rattle.engine.specs.Answers.{numbered, Making};
-    ghost use Rattle.engine.specs.Sessions.{Made};
+    ghost use Rattle.std.specs.Prelude.{ℕ, OnErr, Err, Result};
+    ghost use Rattle.engine.specs.Answers.{numbered, answered, stated, ending_of, Making, Feeding, Holding, Taking, Trimming, Valued, Eventful, Stated};
+    ghost use Rattle.engine.specs.Sessions.{Made, HasNoLines, machine_in, StandsFor, KeepsItsOwn};
+    ghost use Rattle.semantics.specs.Accounts.{Account};
+    ghost use Rattle.semantics.specs.Logs as Logs;
+    ghost use Rattle.semantics.specs.Logs.{Run};
+    ghost use Rattle.engine.specs.Stores.{seen};
     ghost use Rattle.netlist.specs.Closed.{circuit};
 
     // Whether a session can be made.
@@ -57,5 +66,78 @@ impl<'a, V: ValueSystem> Session<'a, V> {
         begin_all(&lines, store, starts);
         settle_all(&lines, store);
         Session { lines, store }
+    }
+
+    // An input keeps its last value up to a tick, where a new value begins.
+    pub fn feed(&mut self, line: u32, tick: u32, value: V) -> Result<(), Refusal>
+        ensures keeps { KeepsItsOwn self.old self.new }
+        ensures refused { OnErr result (self.new ≡ self.old) }
+        ensures without_lines { HasNoLines self.old → numbered result ≡ Err 12 }
+        ensures answers { (a : Account V.Sense) → StandsFor V.meaning V.system self.old a → (b : Account V.Sense) × Feeding (machine_in V.system self.old) a line tick (V.meaning value) (numbered result) b × StandsFor V.meaning V.system self.new b }
+    {
+        giving::feed(&mut self.lines, self.store, line, tick, value)
+    }
+
+    // An input keeps its last value up to a tick.
+    pub fn hold(&mut self, line: u32, tick: u32) -> Result<(), Refusal>
+        ensures keeps { KeepsItsOwn self.old self.new }
+        ensures refused { OnErr result (self.new ≡ self.old) }
+        ensures without_lines { HasNoLines self.old → numbered result ≡ Err 12 }
+        ensures answers { (a : Account V.Sense) → StandsFor V.meaning V.system self.old a → (b : Account V.Sense) × Holding (machine_in V.system self.old) a line tick (numbered result) b × StandsFor V.meaning V.system self.new b }
+    {
+        giving::hold(&mut self.lines, self.store, line, tick)
+    }
+
+    // Takes a gate: its front moves on towards its goal, and no other line does. Answers how far its line is settled.
+    pub fn take(&mut self, line: u32) -> Result<u32, Refusal>
+        ensures keeps { KeepsItsOwn self.old self.new }
+        ensures refused { OnErr result (self.new ≡ self.old) }
+        ensures without_lines { HasNoLines self.old → numbered result ≡ Err 12 }
+        ensures answers { (a : Account V.Sense) → StandsFor V.meaning V.system self.old a → (b : Account V.Sense) × Taking (machine_in V.system self.old) a line (numbered result) b × StandsFor V.meaning V.system self.new b }
+    {
+        taking::take(&mut self.lines, self.store, line)
+    }
+
+    // Takes gates, each time the first, until so many takes are made or no front can move.
+    pub fn run(&mut self, most: u32) -> Ran
+        ensures keeps { KeepsItsOwn self.old self.new }
+        ensures without_lines { HasNoLines self.old → (result.takes ≡ 0) × (ending_of result.ending ≡ Logs.Ending.rest) }
+        ensures answers { (a : Account V.Sense) → StandsFor V.meaning V.system self.old a → (b : Account V.Sense) × Run (machine_in V.system self.old) most a b result.takes (ending_of result.ending) × StandsFor V.meaning V.system self.new b }
+    {
+        running::run(&mut self.lines, self.store, most)
+    }
+
+    // Drops the changes below a tick, which becomes the trim tick.
+    pub fn trim(&mut self, tick: u32) -> Result<(), Refusal>
+        ensures keeps { KeepsItsOwn self.old self.new }
+        ensures refused { OnErr result (self.new ≡ self.old) }
+        ensures without_lines { HasNoLines self.old → numbered result ≡ Err 15 }
+        ensures answers { (a : Account V.Sense) → StandsFor V.meaning V.system self.old a → (b : Account V.Sense) × Trimming (machine_in V.system self.old) a tick (numbered result) b × StandsFor V.meaning V.system self.new b }
+    {
+        trimming::trim(&mut self.lines, self.store, tick)
+    }
+
+    // The value of a line at a tick.
+    pub fn value(&self, line: u32, tick: u32) -> Result<V, Refusal>
+        ensures without_lines { HasNoLines self.now → answered V.meaning result ≡ Err 12 }
+        ensures answers { (a : Account V.Sense) → StandsFor V.meaning V.system self.now a → Valued (machine_in V.system self.now) a line tick (answered V.meaning result) }
+    {
+        asking::value(&self.lines, &*self.store, line, tick)
+    }
+
+    // A kept change of a line, counted from 0.
+    pub fn event(&self, line: u32, k: usize) -> Result<EventRecord<V>, Refusal>
+        ensures without_lines { HasNoLines self.now → answered (seen V.meaning) result ≡ Err 12 }
+        ensures answers { (a : Account V.Sense) → StandsFor V.meaning V.system self.now a → Eventful (machine_in V.system self.now) a line k (answered (seen V.meaning) result) }
+    {
+        asking::event(&self.lines, &*self.store, line, k)
+    }
+
+    // How far a line is settled, and how many of its changes are kept.
+    pub fn state(&self, line: u32) -> Result<LineState, Refusal>
+        ensures without_lines { HasNoLines self.now → answered stated result ≡ Err 12 }
+        ensures answers { (a : Account V.Sense) → StandsFor V.meaning V.system self.now a → Stated (machine_in V.system self.now) a line (answered stated result) }
+    {
+        asking::state(&self.lines, &*self.store, line)
     }
 }

@@ -1,4 +1,4 @@
-use Rattle.std.proofs.Common.{ℕ, ◌-◌, get_or}
+use Rattle.std.proofs.Common.{◌-◌, get_or}
 use Rattle.engine.specs.Lines.{panel}
 use Rattle.engine.specs.Standing.{Keeps}
 use Rattle.engine.proofs.Bases.{BegunTo}

@@ -1,4 +1,4 @@
-use Rattle.std.proofs.Common.{◌≡◌, ℕ, ◌<◌, List, length, sym, ◌∙◌, subst, ap}
+use Rattle.std.proofs.Common.{◌≡◌, ℕ, ◌<◌, length, sym, ◌∙◌, subst, ap}
 use mathlib.Core.Path.{ap₂}
 use Rattle.netlist.specs.declared.progress.Progress.{Progress}
 use Rattle.netlist.specs.GateRow.{at_start}

@@ -1,4 +1,4 @@
-use Rattle.std.proofs.Common.{◌≡◌, ◌<◌, ◌≤◌, sym, ◌∙◌, arith}
+use Rattle.std.proofs.Common.{sym, ◌∙◌, arith}
 use Rattle.engine.specs.Answers.Making.{no_lines, few_records, other_starts, accepted}
 use Rattle.engine.proofs.session.Session.check.Goals as goal
 

@@ -1,4 +1,4 @@
-use Rattle.std.proofs.Common.{◌≡◌, ℕ, suc, ◌*◌, ◌/◌, ◌<◌, ◌≤◌, Ok, length, ap, sym, ◌∙◌, subst, arith}
+use Rattle.std.proofs.Common.{◌≡◌, ◌*◌, ◌/◌, ◌<◌, ◌≤◌, length, ap, sym, ◌∙◌, subst}
 use Rattle.netlist.specs.Closed.{circuit}
 use Rattle.netlist.specs.Gates.{Circuit}
 use Rattle.semantics.specs.Circuits.{lines}

@@ -1,0 +1,12 @@
+use Rattle.std.proofs.Common.{refl}
+use Rattle.engine.specs.Sessions.{machine_in}
+use Rattle.engine.proofs.Sessions.{untouched, nothing_given, none_held}
+use Rattle.engine.proofs.session.Session.hold.Goals as goal
+
+pub returns-clause-refused : goal.returns-clause-refused
+returns-clause-refused g c = untouched c.hold.result c.args.self.now _ c.hold.new.store refl c.hold.ensures.refused
+
+pub returns-clause-without_lines : goal.returns-clause-without_lines
+returns-clause-without_lines g c none =
+    let nothing = nothing_given g.V.ValueSystem.meaning g.V.ValueSystem.system c.args.self.now none in
+    none_held (machine_in g.V.ValueSystem.system c.args.self.now) nothing.account nothing.no_line (c.hold.ensures.answers nothing.account nothing.stands).1

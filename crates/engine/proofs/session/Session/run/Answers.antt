@@ -1,0 +1,8 @@
+use Rattle.engine.specs.Sessions.{machine_in}
+use Rattle.engine.proofs.Sessions.{nothing_given, none_run}
+use Rattle.engine.proofs.session.Session.run.Goals as goal
+
+pub returns-clause-without_lines : goal.returns-clause-without_lines
+returns-clause-without_lines g c none =
+    let nothing = nothing_given g.V.ValueSystem.meaning g.V.ValueSystem.system c.args.self.now none in
+    none_run (machine_in g.V.ValueSystem.system c.args.self.now) nothing.account nothing.no_line (c.run.ensures.answers nothing.account nothing.stands).1

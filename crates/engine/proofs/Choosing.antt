@@ -1,8 +1,9 @@
 -- The gate that is taken next is found by looking at one gate after another.
-use Rattle.std.proofs.Common.{◌≡◌, ℕ, ◌+◌, ◌<◌, ◌≤◌, None, Some, ap, sym, subst, inl, inr, ⊎_elim, arith}
-use Rattle.std.specs.Prelude.{Option, MatchOption, Decides, Bool, true, false}
+use Rattle.std.proofs.Common.{◌≡◌, ℕ, ◌+◌, ◌<◌, ◌≤◌, None, Some, refl, ap, sym, subst, inl, inr, ⊎_elim, arith}
+use Rattle.std.specs.Prelude.{Option, MatchOption, Decides, Bool, true, false, not}
+use Rattle.std.specs.Option.{is_some}
 use Rattle.std.proofs.lemmas.Bool.Decides.{not_from_Decides}
-use Rattle.std.proofs.lemmas.Bool.{cases_eq, cases_lt}
+use Rattle.std.proofs.lemmas.Bool.{cases_eq, cases_lt, both_ways}
 use Rattle.semantics.specs.Accounts.{Account}
 use Rattle.semantics.specs.Machines.{Machine, IsGate}
 use Rattle.semantics.specs.Moves.{CanMove, Rests, Rest}
@@ -81,3 +82,10 @@ told_trails (Some before) front result told no_it = ⊎_elim (λ less. absurd (n
 pub best_of_all : {M : Type 0} (s : Machine M) (a : Account M) (k : ℕ) → ((m : ℕ) → IsGate s.topology m → m < k) → (best : Option Candidate) → BestBelow s a k best → MatchOption best (Rest s a) (λ next. MovesFirst s a next.line)
 best_of_all s a k all None rests = λ m a_gate. rests m (all m a_gate) a_gate
 best_of_all s a k all (Some c) f = record { moves = f.moves; first = λ m moves. f.first m (all m moves.a_gate) moves }
+
+-- there is no first gate just at rest
+pub rest_decided : {M : Type 0} (s : Machine M) (a : Account M) (first : Option Candidate) (none : Bool) → is_some first ≡ not none → MatchOption first (Rest s a) (λ next. MovesFirst s a next.line) → Decides none (Rest s a)
+rest_decided s a None true is rests = (λ yes. rests, λ rest. refl)
+rest_decided s a None false is rests = absurd (both_ways false refl is)
+rest_decided s a (Some c) true is first = absurd (both_ways true is refl)
+rest_decided s a (Some c) false is first = (λ no. absurd (both_ways false refl no), λ rest. absurd (no_rest s a c.line (rest c.line first.moves.a_gate) first.moves))

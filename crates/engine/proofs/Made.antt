@@ -42,7 +42,6 @@ module _ {V M : Type 0} (meaning : V → M) (system : System M) (START : V) (p :
         ∙ (map_replicate (seen meaning) (record { tick = 0; value = START }) (length (part p.stride n store) - 1)
         ∙ (ap (λ k. replicate (k - 1) (0, meaning START)) long ∙ (ap (λ x. filled (p.stride - 1) x) start_means ∙ ap (λ k. filled k system.start) whole)));
   }
-
     where
       filled : ℕ → M → List (ℕ × M)
       filled k x = replicate k (0, x)

@@ -1,4 +1,5 @@
 pub mod Answers
+pub mod Comparing
 pub mod Droppings
 pub mod Lines
 pub mod Looks

@@ -2,9 +2,10 @@
 use Rattle.std.specs.Prelude.{◌≡◌, ℕ, ◌/◌, List, Ok, Err, Result, length, drop}
 use Rattle.events.specs.declared.record.EventRecord.{EventRecord}
 use Rattle.netlist.specs.Gates.{Circuit, nothing}
-use Rattle.semantics.specs.Accounts.{Account}
+use Rattle.semantics.specs.Accounts.{Account, settled}
 use Rattle.semantics.specs.Circuits.{lines}
-use Rattle.semantics.specs.Machines.{Machine}
+use Rattle.semantics.specs.Distances.{Distance}
+use Rattle.semantics.specs.Machines.{Machine, IsLine}
 use Rattle.semantics.specs.Moves.{made}
 use Rattle.values.specs.Systems.{System}
 use Rattle.engine.specs.declared.session.Session.{Session}
@@ -47,3 +48,7 @@ module _ {V M : Type 0} (meaning : V → M) (system : System M) (filler : V) whe
   pub data Made (c : Circuit) (starts : List V) (old : List (EventRecord V)) (p : Panel) (new : List (EventRecord V)) : Result Unit ℕ → Type 0 where
     refused : {number : ℕ} → p.circuit ≡ nothing → new ≡ old → Made c starts old p new (Err number)
     accepted : Fresh c starts old p new → Made c starts old p new (Ok tt)
+
+-- every line is settled exactly to its distance
+abbrev pub SettledToDistances : {M : Type 0} → Machine M → Account M → Type 0
+SettledToDistances s a = (n : ℕ) → IsLine s.topology n → Distance s a n (settled s.topology a n)

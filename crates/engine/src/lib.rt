@@ -8,6 +8,6 @@ mod lines;
 mod making;
 mod records;
 mod running;
-mod session;
+pub mod session;
 mod taking;
 mod trimming;

@@ -47,9 +47,9 @@ fn can_move<V: ValueSystem>(
 
 // A gate's line, and its front.
 #[derive(Clone, Copy)]
-struct Candidate {
-    line: u32,
-    front: u32,
+pub(crate) struct Candidate {
+    pub line: u32,
+    pub front: u32,
 }
 
 // Whether a front is smaller than that of the best so far, if there is one.
@@ -87,7 +87,7 @@ fn better<V: ValueSystem>(
 }
 
 // Of the gates whose fronts can move, the one of the smallest front, and of those the one of the smallest line.
-fn first<V: ValueSystem>(lines: &Lines, store: &[EventRecord<V>]) -> Option<Candidate>
+pub(crate) fn first<V: ValueSystem>(lines: &Lines, store: &[EventRecord<V>]) -> Option<Candidate>
     requires { Holds (panel lines.now) store.now }
     ensures { (a : Account V.Sense) → Stands V.meaning V.system (panel lines.now) store.now a → MatchOption result (Rest (machine_of V.system (panel lines.now)) a) (λ next. MovesFirst (machine_of V.system (panel lines.now)) a next.line) }
 {

@@ -2,17 +2,18 @@
 ghost use Rattle.std.specs.Prelude.{◌≡◌, length};
 ghost use Rattle.engine.specs.Lines.{panel, Holds};
 
-use crate::asking::{self, LineState};
-use crate::giving;
+use crate::asking;
 use crate::lines::Lines;
 use crate::making::{begin_all, settle_all};
-use crate::running::{self, Ran};
-use crate::taking;
-use crate::trimming;
+use crate::running;
+use crate::{giving, taking, trimming};
 use events::record::EventRecord;
 use netlist::closed::Netlist;
 use netlist::refusal::Refusal;
 use values::system::ValueSystem;
+
+pub use crate::asking::LineState;
+pub use crate::running::{Ending, Ran};
 
 // A netlist that is simulated in a lent store: how far its lines have come, and their records.
 #[derive(Drop)]
@@ -23,12 +24,13 @@ pub struct Session<'a, V> {
 }
 
 impl<'a, V: ValueSystem> Session<'a, V> {
-    ghost use Rattle.std.specs.Prelude.{ℕ, OnErr, Err, Result};
+    ghost use Rattle.std.specs.Prelude.{ℕ, true, OnErr, Err, Result, Decides};
     ghost use Rattle.engine.specs.Answers.{numbered, answered, stated, ending_of, Making, Feeding, Holding, Taking, Trimming, Valued, Eventful, Stated};
-    ghost use Rattle.engine.specs.Sessions.{Made, HasNoLines, machine_in, StandsFor, KeepsItsOwn};
+    ghost use Rattle.engine.specs.Sessions.{Made, HasNoLines, machine_in, StandsFor, KeepsItsOwn, SettledToDistances};
     ghost use Rattle.semantics.specs.Accounts.{Account};
     ghost use Rattle.semantics.specs.Logs as Logs;
     ghost use Rattle.semantics.specs.Logs.{Run};
+    ghost use Rattle.semantics.specs.Moves.{Rest};
     ghost use Rattle.engine.specs.Stores.{seen};
     ghost use Rattle.netlist.specs.Closed.{circuit};
 
@@ -139,5 +141,13 @@ impl<'a, V: ValueSystem> Session<'a, V> {
         ensures answers { (a : Account V.Sense) → StandsFor V.meaning V.system self.now a → Stated (machine_in V.system self.now) a line (answered stated result) }
     {
         asking::state(&self.lines, &*self.store, line)
+    }
+
+    // Whether the session is at rest, where no front can move. There every line is settled exactly to its distance.
+    pub fn at_rest(&self) -> bool
+        ensures decides_rest { (a : Account V.Sense) → StandsFor V.meaning V.system self.now a → Decides result (Rest (machine_in V.system self.now) a) }
+        ensures settled_to_distances { result ≡ true → (a : Account V.Sense) → StandsFor V.meaning V.system self.now a → SettledToDistances (machine_in V.system self.now) a }
+    {
+        running::first(&self.lines, &*self.store).is_none()
     }
 }

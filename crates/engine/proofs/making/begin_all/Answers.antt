@@ -61,9 +61,9 @@ returns-clause-right g c as_many =
     let past = c.loop-place-test.false in
     let starts = c.args.starts.now in
     let begins : (n : ℕ) → IsLine (topology p.circuit) n → meaning (base START p.stride store n) ≡ meaning (get_or starts (n - 1) START) =
-        λ n is_line.
-        let range = of_line p n is_line in
-        ap meaning (base_begun START p.stride (omega (arith, c.args.lines.now.kept_fit n range.0 range.1)) store n (get_or starts (n - 1) START) (c.loop-place.invariant.begun n is_line (omega (arith, range.1, c.lines-place-end.ensures)))) in
+    λ n is_line.
+    let range = of_line p n is_line in
+    ap meaning (base_begun START p.stride (omega (arith, c.args.lines.now.kept_fit n range.0 range.1)) store n (get_or starts (n - 1) START) (c.loop-place.invariant.begun n is_line (omega (arith, range.1, c.lines-place-end.ensures)))) in
     right_at_first g.V.ValueSystem.system p.circuit (sure c.args.lines.now).wired (given meaning START starts) (λ n. meaning (base START p.stride store n)) (λ n an_input. begins n (inl an_input))
     (λ n a_gate.
     let range = gate_range p.circuit n a_gate in

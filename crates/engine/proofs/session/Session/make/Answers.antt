@@ -42,16 +42,18 @@ returns-clause-makes g c =
     let keeps = keeps_on p p p old c.begin_all.new.store new c.begin_all.ensures.keeps c.settle_all.ensures.keeps in
     let fits = no_more p netlist (length old) same each in
     let holds : lines p.circuit * p.stride ≤ length new = subst (λ k. lines p.circuit * p.stride ≤ k) (sym keeps.same_length) fits in
-    let right = c.settle_all.ensures.right (given meaning START starts) (c.begin_all.ensures.right (can.one_each ∙ ap (λ (d : Circuit). d.inputs) (sym same))) in
-    (numbered c.check.result, c.check.ensures.answers,
-    subst (λ r. Made meaning system START netlist starts old p new (numbered r)) (sym c.in-Ok.is)
-    (Made.accepted (record {
-      circuit = same;
-      stride = each;
-      same_length = keeps.same_length;
-      beyond = keeps.beyond;
-      stands = stands_made meaning system START p new (given meaning START starts) (sure c.new-lines.result).wired g.met.V.ValueSystem.start_means
-          (shows_made meaning system START p new (given meaning START starts) (sure c.new-lines.result).wired g.met.V.ValueSystem.start_means
-          (ap (λ (q : Panel). q.trim) c.new-lines.ensures) (λ n. ap (λ (q : Panel). q.progress n) c.new-lines.ensures)
-          (c.settle_all.ensures.begun c.begin_all.ensures.begun) right holds);
-    })))
+    let right = c.settle_all.ensures.right (given meaning START starts) (c.begin_all.ensures.right (can.one_each ∙ ap (λ (d : Circuit). d.inputs) (sym same))) in (
+      numbered c.check.result,
+      c.check.ensures.answers,
+      subst (λ r. Made meaning system START netlist starts old p new (numbered r)) (sym c.in-Ok.is)
+          (Made.accepted (record {
+            circuit = same;
+            stride = each;
+            same_length = keeps.same_length;
+            beyond = keeps.beyond;
+            stands = stands_made meaning system START p new (given meaning START starts) (sure c.new-lines.result).wired g.met.V.ValueSystem.start_means
+                (shows_made meaning system START p new (given meaning START starts) (sure c.new-lines.result).wired g.met.V.ValueSystem.start_means
+                (ap (λ (q : Panel). q.trim) c.new-lines.ensures) (λ n. ap (λ (q : Panel). q.progress n) c.new-lines.ensures)
+                (c.settle_all.ensures.begun c.begin_all.ensures.begun) right holds);
+          })),
+    )

@@ -1,4 +1,5 @@
 pub mod Advancing
+pub mod Agreeing
 pub mod Bases
 pub mod Beginnings
 pub mod Books
@@ -19,5 +20,6 @@ pub mod Sessions
 pub mod Stepping
 pub mod Takes
 pub mod Telling
+pub mod Ties
 pub mod Trims
 pub mod Ways

@@ -2,18 +2,17 @@
 ghost use Rattle.std.specs.Prelude.{◌≡◌, length};
 ghost use Rattle.engine.specs.Lines.{panel, Holds};
 
-use crate::asking;
+pub mod comparing;
+
+pub use crate::asking::LineState;
 use crate::lines::Lines;
 use crate::making::{begin_all, settle_all};
-use crate::running;
-use crate::{giving, taking, trimming};
+pub use crate::running::{Ending, Ran};
+use crate::{asking, giving, running, taking, trimming};
 use events::record::EventRecord;
 use netlist::closed::Netlist;
 use netlist::refusal::Refusal;
 use values::system::ValueSystem;
-
-pub use crate::asking::LineState;
-pub use crate::running::{Ending, Ran};
 
 // A netlist that is simulated in a lent store: how far its lines have come, and their records.
 #[derive(Drop)]
@@ -26,7 +25,7 @@ pub struct Session<'a, V> {
 impl<'a, V: ValueSystem> Session<'a, V> {
     ghost use Rattle.std.specs.Prelude.{ℕ, true, OnErr, Err, Result, Decides};
     ghost use Rattle.engine.specs.Answers.{numbered, answered, stated, ending_of, Making, Feeding, Holding, Taking, Trimming, Valued, Eventful, Stated};
-    ghost use Rattle.engine.specs.Sessions.{Made, HasNoLines, machine_in, StandsFor, KeepsItsOwn, SettledToDistances};
+    ghost use Rattle.engine.specs.Sessions.{Made, lines_of, HasNoLines, machine_in, StandsFor, KeepsItsOwn, SettledToDistances};
     ghost use Rattle.semantics.specs.Accounts.{Account};
     ghost use Rattle.semantics.specs.Logs as Logs;
     ghost use Rattle.semantics.specs.Logs.{Run};
@@ -149,5 +148,26 @@ impl<'a, V: ValueSystem> Session<'a, V> {
         ensures settled_to_distances { result ≡ true → (a : Account V.Sense) → StandsFor V.meaning V.system self.now a → SettledToDistances (machine_in V.system self.now) a }
     {
         running::first(&self.lines, &*self.store).is_none()
+    }
+
+    // The netlist that is simulated.
+    pub fn netlist(&self) -> &Netlist
+        ensures is_its_netlist { circuit result.now ≡ (lines_of self.now).circuit }
+    {
+        &self.lines.netlist
+    }
+
+    // How many changes of each line are kept at most.
+    pub fn room(&self) -> usize
+        ensures is_its_room { result ≡ (machine_in V.system self.now).room }
+    {
+        self.lines.stride.saturating_sub(1)
+    }
+
+    // The trim tick, from which on changes are kept.
+    pub fn trim_tick(&self) -> u32
+        ensures is_its_trim_tick { (a : Account V.Sense) → StandsFor V.meaning V.system self.now a → result ≡ a.trim }
+    {
+        self.lines.trim
     }
 }

@@ -6,6 +6,7 @@ ghost use Rattle.engine.specs.Orders.{MovesFirst, BestBelow};
 ghost use Rattle.engine.specs.Standing.{machine_of, Stands, Keeps};
 ghost use Rattle.semantics.specs.Accounts.{Account};
 ghost use Rattle.semantics.specs.Circuits.{gate_of_line, topology};
+ghost use Rattle.semantics.specs.Logs as Logs;
 ghost use Rattle.semantics.specs.Logs.{Run};
 ghost use Rattle.semantics.specs.Machines.{IsGate};
 ghost use Rattle.semantics.specs.Moves.{CanMove, Rests, Rest};
@@ -117,6 +118,7 @@ pub(crate) fn run<V: ValueSystem>(lines: &mut Lines, store: &mut [EventRecord<V>
     requires { Holds (panel lines.old) store.old }
     ensures keeps { Keeps (panel lines.old) (panel lines.new) store.old store.new }
     ensures answers { (a : Account V.Sense) → Stands V.meaning V.system (panel lines.old) store.old a → (b : Account V.Sense) × Run (machine_of V.system (panel lines.old)) most a b result.takes (ending_of result.ending) × Stands V.meaning V.system (panel lines.new) store.new b }
+    ensures rests { ending_of result.ending ≡ Logs.Ending.rest → (b : Account V.Sense) → Stands V.meaning V.system (panel lines.new) store.new b → Rest (machine_of V.system (panel lines.new)) b }
 {
     let mut takes = 0;
     while let Some(next) = first(lines, store) {

@@ -58,3 +58,9 @@ returns-clause-answers g c a h =
       ends_at_rest meaning system p q c.args.store.now c.loop-next.store so_far.keeps a c.loop-next.takes under c.args.most so_far.few (c.in_default.ensures under.now under.stands),
       under.stands,
     )
+
+pub returns-then-takes-most-clause-rests : goal.returns-then-takes-most-clause-rests
+returns-then-takes-most-clause-rests g c at_rest = cc
+
+pub returns-clause-rests : goal.returns-clause-rests
+returns-clause-rests g c at_rest b h = c.in_default.ensures b h

@@ -13,9 +13,11 @@ use crate::stop::Stop;
 use engine::session::Session;
 use events::record::EventRecord;
 use netlist::closed::Netlist;
-use std::io;
+use std::rt::Runtime;
+use std::{env, io};
 use values::bit::Bit;
 
+// How many stretches are made where none are told.
 const STRETCHES: u32 = 3_000;
 
 // How many changes of a line can be kept; no stretch makes more.
@@ -34,8 +36,14 @@ fn prepare(rt: &impl Print, store: &[EventRecord<Bit>], starts: &[Bit]) -> Resul
     Ok(netlist)
 }
 
-// Makes a session, simulates all stretches, and reports.
-fn measure(rt: &impl Print) -> Result<(), Stop> {
+// How many stretches the first argument tells.
+fn told_stretches(rt: &impl Runtime) -> io::Result<u32> {
+    let told = env::args(rt)?.nth(1);
+    Ok(told.and_then(|word| word.parse().ok()).unwrap_or(STRETCHES))
+}
+
+// Makes a session, simulates so many stretches, and reports.
+fn measure(rt: &impl Print, stretches: u32) -> Result<(), Stop> {
     let mut store = [EventRecord {
         tick: 0,
         value: Bit(false),
@@ -43,12 +51,13 @@ fn measure(rt: &impl Print) -> Result<(), Stop> {
     let starts = [Bit(false); INPUTS];
     let netlist = prepare(rt, &store, &starts)?;
     let mut load = Load::new(Session::make(netlist, &mut store, &starts));
-    load.stretches(STRETCHES)?;
+    load.stretches(stretches)?;
     load.report(rt)
 }
 
 fn main(rt: HostRuntime) -> io::Result<()> {
-    match measure(&rt) {
+    let stretches = told_stretches(&rt)?;
+    match measure(&rt, stretches) {
         Ok(()) => Ok(()),
         Err(Stop::Refusal(refusal)) => {
             let number = refusal.number();

@@ -19,7 +19,7 @@ use Rattle.semantics.proofs.Keeping.{made_stable}
 use Rattle.semantics.proofs.Ruling.{rule_local}
 use Rattle.values.specs.Systems.{System}
 use Rattle.engine.specs.Answers.{numbered, Making}
-use Rattle.engine.specs.Lines.{Panel, extent, Holds}
+use Rattle.engine.specs.Lines.{Panel, room, extent, Holds}
 use Rattle.engine.specs.Makings.{base, AllBegun, AllRight}
 use Rattle.engine.specs.Recordings.{begun}
 use Rattle.engine.specs.Sessions.{Made}
@@ -80,6 +80,6 @@ pub no_more : (p : Panel) (c : Circuit) (records : ℕ) → p.circuit ≡ c → 
 no_more p c records same each = subst (λ e. e ≤ records) (sym (ap₂ (λ d k. lines d * k) same each)) (mul-div-le records (lines c))
 
 -- a refused making leaves a session without lines
-pub refused_so : {V M : Type 0} (meaning : V → M) (system : System M) (filler : V) (c : Circuit) (starts : List V) (store : List (EventRecord V)) (p : Panel) (r : Result Unit Refusal) → ((x : Unit) → r ≡ Ok x → ⊥) → p.circuit ≡ nothing → Made meaning system filler c starts store p store (numbered r)
-refused_so meaning system filler c starts store p (Ok x) other empty = absurd (other x refl)
-refused_so meaning system filler c starts store p (Err r) other empty = Made.refused empty refl
+pub refused_so : {V M : Type 0} (meaning : V → M) (system : System M) (filler : V) (c : Circuit) (starts : List V) (store : List (EventRecord V)) (p : Panel) (r : Result Unit Refusal) → ((x : Unit) → r ≡ Ok x → ⊥) → p.circuit ≡ nothing → room p ≡ 0 → p.trim ≡ 0 → Made meaning system filler c starts store p store (numbered r)
+refused_so meaning system filler c starts store p (Ok x) other empty full untrimmed = absurd (other x refl)
+refused_so meaning system filler c starts store p (Err r) other empty full untrimmed = Made.refused empty full untrimmed refl

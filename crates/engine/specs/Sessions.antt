@@ -9,7 +9,7 @@ use Rattle.semantics.specs.Machines.{Machine, IsLine}
 use Rattle.semantics.specs.Moves.{made}
 use Rattle.values.specs.Systems.{System}
 use Rattle.engine.specs.declared.session.Session.{Session}
-use Rattle.engine.specs.Lines.{Panel, panel, extent}
+use Rattle.engine.specs.Lines.{Panel, panel, room, extent}
 use Rattle.engine.specs.Makings.{given}
 use Rattle.engine.specs.Standing.{machine_of, Stands, Keeps}
 
@@ -44,9 +44,9 @@ module _ {V M : Type 0} (meaning : V → M) (system : System M) (filler : V) whe
     pub beyond : drop (extent p) new ≡ drop (extent p) old
     pub stands : Stands meaning system p new (made (given meaning filler starts))
 
-  -- What making comes to: where it is refused, nothing is written, and there are no lines.
+  -- What making comes to: where it is refused, nothing is written, and there are no lines, no room and nothing trimmed.
   pub data Made (c : Circuit) (starts : List V) (old : List (EventRecord V)) (p : Panel) (new : List (EventRecord V)) : Result Unit ℕ → Type 0 where
-    refused : {number : ℕ} → p.circuit ≡ nothing → new ≡ old → Made c starts old p new (Err number)
+    refused : {number : ℕ} → p.circuit ≡ nothing → room p ≡ 0 → p.trim ≡ 0 → new ≡ old → Made c starts old p new (Err number)
     accepted : Fresh c starts old p new → Made c starts old p new (Ok tt)
 
 -- every line is settled exactly to its distance

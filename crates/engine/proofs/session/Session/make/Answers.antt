@@ -1,4 +1,4 @@
-use Rattle.std.proofs.Common.{◌≡◌, ◌*◌, ◌/◌, ◌<◌, ◌≤◌, length, ap, sym, ◌∙◌, subst}
+use Rattle.std.proofs.Common.{◌≡◌, ◌-◌, ◌*◌, ◌/◌, ◌<◌, ◌≤◌, length, ap, sym, ◌∙◌, subst}
 use Rattle.netlist.specs.Closed.{circuit}
 use Rattle.netlist.specs.Gates.{Circuit}
 use Rattle.semantics.specs.Circuits.{lines}
@@ -14,7 +14,7 @@ use Rattle.engine.proofs.session.Session.make.Goals as goal
 pub returns-in_default-clause-makes : goal.returns-in_default-clause-makes
 returns-in_default-clause-makes g c =
     let none = ap (λ (p : Panel). p.circuit) c.new.ensures ∙ c.empty.ensures in
-    (numbered c.check.result, c.check.ensures.answers, refused_so g.V.ValueSystem.meaning g.V.ValueSystem.system g.V.ValueSystem.START (circuit c.args.netlist) c.args.starts.now c.args.store.now (panel c.new.result) c.check.result c.in_default.not-Ok none)
+    (numbered c.check.result, c.check.ensures.answers, refused_so g.V.ValueSystem.meaning g.V.ValueSystem.system g.V.ValueSystem.START (circuit c.args.netlist) c.args.starts.now c.args.store.now (panel c.new.result) c.check.result c.in_default.not-Ok none (ap (λ (p : Panel). p.stride - 1) c.new.ensures) (ap (λ (p : Panel). p.trim) c.new.ensures))
 
 pub nonzero_div-stride : goal.nonzero_div-stride
 nonzero_div-stride g c =

@@ -1,0 +1,5 @@
+// Nothing but tests: of sessions.
+#![tactic(auto)]
+
+#[cfg(test)]
+mod tests;

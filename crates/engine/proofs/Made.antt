@@ -5,7 +5,7 @@ use Rattle.std.specs.Prelude.{Result}
 use Rattle.std.proofs.Math.Nat.{le-div_iff_mul-le, mul-div-le}
 use Rattle.events.specs.declared.record.EventRecord.{EventRecord}
 use Rattle.netlist.specs.declared.refusal.Refusal.{Refusal}
-use Rattle.netlist.specs.Gates.{Circuit, nothing}
+use Rattle.netlist.specs.Gates.{Circuit}
 use Rattle.netlist.specs.declared.progress.Progress.{Progress}
 use Rattle.netlist.specs.GateRow.{at_start}
 use Rattle.semantics.specs.Accounts.{settled}
@@ -18,11 +18,12 @@ use Rattle.semantics.specs.Moves.{made}
 use Rattle.semantics.proofs.Keeping.{made_stable}
 use Rattle.semantics.proofs.Ruling.{rule_local}
 use Rattle.values.specs.Systems.{System}
+use Rattle.engine.specs.declared.session.Session.{Session}
 use Rattle.engine.specs.Answers.{numbered, Making}
-use Rattle.engine.specs.Lines.{Panel, room, extent, Holds}
+use Rattle.engine.specs.Lines.{Panel, extent, Holds}
 use Rattle.engine.specs.Makings.{base, AllBegun, AllRight}
 use Rattle.engine.specs.Recordings.{begun}
-use Rattle.engine.specs.Sessions.{Made}
+use Rattle.engine.specs.Sessions.{Lineless, Fresh, Made}
 use Rattle.engine.specs.Standing.{Tells, machine_of, Shows, Stands}
 use Rattle.engine.specs.Stores.{part, seen}
 use Rattle.engine.proofs.Books.{of_line}
@@ -80,6 +81,10 @@ pub no_more : (p : Panel) (c : Circuit) (records : ℕ) → p.circuit ≡ c → 
 no_more p c records same each = subst (λ e. e ≤ records) (sym (ap₂ (λ d k. lines d * k) same each)) (mul-div-le records (lines c))
 
 -- a refused making leaves a session without lines
-pub refused_so : {V M : Type 0} (meaning : V → M) (system : System M) (filler : V) (c : Circuit) (starts : List V) (store : List (EventRecord V)) (p : Panel) (r : Result Unit Refusal) → ((x : Unit) → r ≡ Ok x → ⊥) → p.circuit ≡ nothing → room p ≡ 0 → p.trim ≡ 0 → Made meaning system filler c starts store p store (numbered r)
-refused_so meaning system filler c starts store p (Ok x) other empty full untrimmed = absurd (other x refl)
-refused_so meaning system filler c starts store p (Err r) other empty full untrimmed = Made.refused empty full untrimmed refl
+pub refused_so : {V M : Type 0} (meaning : V → M) (system : System M) (filler : V) (c : Circuit) (starts : List V) (store : List (EventRecord V)) (s : Session V) (r : Result Unit Refusal) → ((x : Unit) → r ≡ Ok x → ⊥) → Lineless store s → Made meaning system filler c starts store s (numbered r)
+refused_so meaning system filler c starts store s (Ok x) other lineless = absurd (other x refl)
+refused_so meaning system filler c starts store s (Err r) other lineless = Made.refused lineless
+
+-- an accepted one gives a fresh session
+pub made_so : {V M : Type 0} (meaning : V → M) (system : System M) (filler : V) (c : Circuit) (starts : List V) (store : List (EventRecord V)) (s : Session V) (r : Result Unit Refusal) (x : Unit) → r ≡ Ok x → Fresh meaning system filler c starts store s → Made meaning system filler c starts store s (numbered r)
+made_so meaning system filler c starts store s r x is fresh = subst (λ q. Made meaning system filler c starts store s (numbered q)) (sym is) (Made.accepted fresh)

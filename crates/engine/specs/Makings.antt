@@ -12,10 +12,6 @@ use Rattle.semantics.proofs.Depths.{depth}
 use Rattle.engine.specs.Recordings.{begun}
 use Rattle.engine.specs.Stores.{part}
 
--- what initial values, given in the inputs' order, mean
-abbrev pub given : {V M : Type 0} → (V → M) → V → List V → ℕ → M
-given meaning filler starts n = meaning (slice_index_or starts (n - 1) filler)
-
 module _ {V : Type 0} (filler : V) (stride : ℕ) (store : List (EventRecord V)) where
   -- the value in the base of a line
   abbrev pub base : ℕ → V

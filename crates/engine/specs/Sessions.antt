@@ -1,5 +1,5 @@
 -- Sessions as their reader sees them.
-use Rattle.std.specs.Prelude.{◌≡◌, ℕ, ◌/◌, List, Ok, Err, Result, length, drop}
+use Rattle.std.specs.Prelude.{◌≡◌, ℕ, ◌-◌, ◌/◌, List, Ok, Err, Result, length, drop, slice_index_or}
 use Rattle.events.specs.declared.record.EventRecord.{EventRecord}
 use Rattle.netlist.specs.Gates.{Circuit, nothing}
 use Rattle.semantics.specs.Accounts.{Account, settled}
@@ -10,7 +10,6 @@ use Rattle.semantics.specs.Moves.{made}
 use Rattle.values.specs.Systems.{System}
 use Rattle.engine.specs.declared.session.Session.{Session}
 use Rattle.engine.specs.Lines.{Panel, panel, room, extent}
-use Rattle.engine.specs.Makings.{given}
 use Rattle.engine.specs.Standing.{machine_of, Stands, Keeps}
 
 -- the lines of a session
@@ -34,20 +33,31 @@ pub record KeepsItsOwn {V : Type 0} (s s' : Session V) : Type 0 where
   pub same_store : s'.store.ghost_name ≡ s.store.ghost_name
   pub keeps : Keeps (lines_of s) (lines_of s') s.store.now s'.store.now
 
-module _ {V M : Type 0} (meaning : V → M) (system : System M) (filler : V) where
+-- a session without lines, in a store to which nothing was written
+pub record Lineless {V : Type 0} (old : List (EventRecord V)) (s : Session V) : Type 0 where
+  pub circuit : (lines_of s).circuit ≡ nothing
+  pub no_room : room (lines_of s) ≡ 0
+  pub untrimmed : (lines_of s).trim ≡ 0
+  pub untouched : s.store.now ≡ old
+
+-- what initial values, given in the inputs' order, mean
+abbrev pub given : {V M : Type 0} → (V → M) → V → List V → ℕ → M
+given meaning filler starts n = meaning (slice_index_or starts (n - 1) filler)
+
+module _ {V M : Type 0} (meaning : V → M) (system : System M) (filler : V) (c : Circuit) (starts : List V) (old : List (EventRecord V)) (s : Session V) where
   -- A session that was just made has the lines of the netlist, each with as many records as there are for it in the store. It
   -- stands for what was given, and wrote nothing beyond the records of its lines.
-  pub record Fresh (c : Circuit) (starts : List V) (old : List (EventRecord V)) (p : Panel) (new : List (EventRecord V)) : Type 0 where
-    pub circuit : p.circuit ≡ c
-    pub stride : p.stride ≡ length old / lines c
-    pub same_length : length new ≡ length old
-    pub beyond : drop (extent p) new ≡ drop (extent p) old
-    pub stands : Stands meaning system p new (made (given meaning filler starts))
+  pub record Fresh : Type 0 where
+    pub circuit : (lines_of s).circuit ≡ c
+    pub stride : (lines_of s).stride ≡ length old / lines c
+    pub same_length : length s.store.now ≡ length old
+    pub beyond : drop (extent (lines_of s)) s.store.now ≡ drop (extent (lines_of s)) old
+    pub stands : StandsFor meaning system s (made (given meaning filler starts))
 
-  -- What making comes to: where it is refused, nothing is written, and there are no lines, no room and nothing trimmed.
-  pub data Made (c : Circuit) (starts : List V) (old : List (EventRecord V)) (p : Panel) (new : List (EventRecord V)) : Result Unit ℕ → Type 0 where
-    refused : {number : ℕ} → p.circuit ≡ nothing → room p ≡ 0 → p.trim ≡ 0 → new ≡ old → Made c starts old p new (Err number)
-    accepted : Fresh c starts old p new → Made c starts old p new (Ok tt)
+  -- what making comes to, where it is refused and where it is not
+  pub data Made : Result Unit ℕ → Type 0 where
+    refused : {number : ℕ} → Lineless old s → Made (Err number)
+    accepted : Fresh → Made (Ok tt)
 
 -- every line is settled exactly to its distance
 abbrev pub SettledToDistances : {M : Type 0} → Machine M → Account M → Type 0

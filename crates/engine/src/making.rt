@@ -1,7 +1,8 @@
 // How lines begin.
 ghost use Rattle.std.specs.Prelude.{◌≡◌, ℕ, suc, Contains, length, map, false, slice_index_or};
 ghost use Rattle.engine.specs.Lines.{panel, Holds, IsLineOf};
-ghost use Rattle.engine.specs.Makings.{given, base, AllBegun, SettledAt, RightTo, AllRight};
+ghost use Rattle.engine.specs.Makings.{base, AllBegun, SettledAt, RightTo, AllRight};
+ghost use Rattle.engine.specs.Sessions.{given};
 ghost use Rattle.engine.specs.Standing.{Keeps};
 ghost use Rattle.gates.specs.Functions.{combined, finished, gate_function};
 ghost use Rattle.semantics.specs.Circuits.{Wired};

@@ -54,7 +54,7 @@ impl<'a, V: ValueSystem> Session<'a, V> {
     // written, and the session has no lines.
     pub fn make(netlist: Netlist, store: &'a mut [EventRecord<V>], starts: &[V]) -> Session<'a, V>
         ensures same_store { result.store.ghost_name ≡ store.entry.ghost_name }
-        ensures makes { (r : Result Unit ℕ) × Making (circuit netlist) (length store.old) (length starts.now) r × Made V.meaning V.system V.START (circuit netlist) starts.now store.old (panel result.lines) result.store.now r }
+        ensures makes { (r : Result Unit ℕ) × Making (circuit netlist) (length store.old) (length starts.now) r × Made V.meaning V.system V.START (circuit netlist) starts.now store.old result r }
     {
         let Ok(()) = Session::check(&netlist, store, starts) else {
             return Session {

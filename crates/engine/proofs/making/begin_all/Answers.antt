@@ -3,7 +3,8 @@ use Rattle.std.proofs.lemmas.List.{get_or_past}
 use Rattle.semantics.specs.Circuits.{lines, topology}
 use Rattle.semantics.proofs.Wiring.{gate_range}
 use Rattle.semantics.specs.Machines.{IsLine}
-use Rattle.engine.specs.Makings.{base, given}
+use Rattle.engine.specs.Makings.{base}
+use Rattle.engine.specs.Sessions.{given}
 use Rattle.engine.specs.Lines.{panel, extent}
 use Rattle.engine.specs.Recordings.{begun}
 use Rattle.engine.specs.Stores.{part, OnlyThere}

@@ -1,20 +1,27 @@
-use Rattle.std.proofs.Common.{◌≡◌, ◌-◌, ◌*◌, ◌/◌, ◌<◌, ◌≤◌, length, ap, sym, ◌∙◌, subst}
+use Rattle.std.proofs.Common.{◌≡◌, ◌-◌, ◌*◌, ◌/◌, ◌<◌, ◌≤◌, length, refl, ap, sym, ◌∙◌, subst}
 use Rattle.netlist.specs.Closed.{circuit}
 use Rattle.netlist.specs.Gates.{Circuit}
 use Rattle.semantics.specs.Circuits.{lines}
 use Rattle.engine.specs.Answers.{numbered}
 use Rattle.engine.specs.Lines.{Panel, panel}
-use Rattle.engine.specs.Makings.{given}
-use Rattle.engine.specs.Sessions.{Made}
+use Rattle.engine.specs.Sessions.{given}
 use Rattle.engine.proofs.Books.{sure}
-use Rattle.engine.proofs.Made.{accepted_so, some_each, no_more, refused_so, shows_made, stands_made}
+use Rattle.engine.proofs.Made.{accepted_so, some_each, no_more, refused_so, made_so, shows_made, stands_made}
 use Rattle.engine.proofs.Moving.{keeps_on}
 use Rattle.engine.proofs.session.Session.make.Goals as goal
 
 pub returns-in_default-clause-makes : goal.returns-in_default-clause-makes
-returns-in_default-clause-makes g c =
-    let none = ap (λ (p : Panel). p.circuit) c.new.ensures ∙ c.empty.ensures in
-    (numbered c.check.result, c.check.ensures.answers, refused_so g.V.ValueSystem.meaning g.V.ValueSystem.system g.V.ValueSystem.START (circuit c.args.netlist) c.args.starts.now c.args.store.now (panel c.new.result) c.check.result c.in_default.not-Ok none (ap (λ (p : Panel). p.stride - 1) c.new.ensures) (ap (λ (p : Panel). p.trim) c.new.ensures))
+returns-in_default-clause-makes g c = (
+  numbered c.check.result,
+  c.check.ensures.answers,
+  refused_so g.V.ValueSystem.meaning g.V.ValueSystem.system g.V.ValueSystem.START (circuit c.args.netlist) c.args.starts.now c.args.store.now _ c.check.result c.in_default.not-Ok
+      (record {
+        circuit = ap (λ (p : Panel). p.circuit) c.new.ensures ∙ c.empty.ensures;
+        no_room = ap (λ (p : Panel). p.stride - 1) c.new.ensures;
+        untrimmed = ap (λ (p : Panel). p.trim) c.new.ensures;
+        untouched = refl;
+      }),
+)
 
 pub nonzero_div-stride : goal.nonzero_div-stride
 nonzero_div-stride g c =
@@ -45,8 +52,8 @@ returns-clause-makes g c =
     let right = c.settle_all.ensures.right (given meaning START starts) (c.begin_all.ensures.right (can.one_each ∙ ap (λ (d : Circuit). d.inputs) (sym same))) in (
       numbered c.check.result,
       c.check.ensures.answers,
-      subst (λ r. Made meaning system START netlist starts old p new (numbered r)) (sym c.in-Ok.is)
-          (Made.accepted (record {
+      made_so meaning system START netlist starts old _ c.check.result c.in-Ok.field-0 c.in-Ok.is
+          (record {
             circuit = same;
             stride = each;
             same_length = keeps.same_length;
@@ -55,5 +62,5 @@ returns-clause-makes g c =
                 (shows_made meaning system START p new (given meaning START starts) (sure c.new-lines.result).wired g.met.V.ValueSystem.start_means
                 (ap (λ (q : Panel). q.trim) c.new-lines.ensures) (λ n. ap (λ (q : Panel). q.progress n) c.new-lines.ensures)
                 (c.settle_all.ensures.begun c.begin_all.ensures.begun) right holds);
-          })),
+          }),
     )

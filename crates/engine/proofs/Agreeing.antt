@@ -1,9 +1,11 @@
 -- Two logs that agree: their records, and what they answer.
-use Rattle.std.proofs.Common.{◌≡◌, ℕ, zero, suc, ◌-◌, ◌*◌, ◌<◌, ◌≤◌, List, ◌∷◌, ◌++◌, length, map, take, drop, replicate, get_or, Ok, Some, refl, ap, sym, ◌∙◌, subst, ⊎_elim, arith, Contains}
+use Rattle.std.proofs.Common.{◌≡◌, ℕ, zero, suc, ◌-◌, ◌*◌, ◌<◌, ◌≤◌, List, [], ◌∷◌, ◌++◌, length, map, take, drop, replicate, get_or, Ok, Some, refl, ap, sym, ◌∙◌, subst, ⊎_elim, arith, Contains}
 use Rattle.std.proofs.lemmas.Option.{get_or_from_slice_get, slice_get_cases}
 use mathlib.Core.Path.{ap₂}
 use Rattle.std.specs.Prelude.{Result, slice_get}
-use Rattle.std.proofs.Math.Nat.{suc-mul}
+use Rattle.std.proofs.Math.Nat.{suc-mul, zero-mul}
+use Rattle.std.proofs.lemmas.Bool.{cases_lt}
+use Rattle.netlist.specs.Gates.{Circuit}
 use Rattle.std.proofs.Math.Seq.{take-add}
 use Rattle.std.proofs.lemmas.List.{take-append-drop, take-map, drop-map, get_or-map}
 use Rattle.semantics.specs.Accounts.{Account, settled, before, value, KeptChanges}
@@ -134,24 +136,39 @@ module _ {M : Type 0} (s : Machine M) (a b : Account M) (agree : Agree s a b) (t
   pub answer_alike : AnswerAlike s s a b
   answer_alike = record { values = values_alike; events = events_alike; states = states_alike }
 
--- two sessions whose lines and records stand for logs that are alike, both at rest
-module _ {V M : Type 0} (meaning : V → M) (system : System M) (p q : Panel) (left right : List (EventRecord V)) (circuits : p.circuit ≡ q.circuit) (strides : p.stride ≡ q.stride) (is : Sure p) (a b : Account M) (h : Stands meaning system p left a) (k : Stands meaning system q right b) (rests : Rest (machine_of system p) a) (rests_too : Rest (machine_of system q) b) (alike : Alike (machine_of system p) a b) where
+-- Lines and records of two sessions stand for logs that are alike, both at rest.
+pub record RestAlike {V M : Type 0} (meaning : V → M) (system : System M) (p q : Panel) (left right : List (EventRecord V)) (a b : Account M) : Type 0 where
+  pub circuits : p.circuit ≡ q.circuit
+  pub rooms : room p ≡ room q
+  pub records_here : 0 < lines p.circuit → 0 < p.stride
+  pub records_there : 0 < lines p.circuit → 0 < q.stride
+  pub sure : Sure p
+  pub here : Stands meaning system p left a
+  pub there : Stands meaning system q right b
+  pub rests_here : Rest (machine_of system p) a
+  pub rests_there : Rest (machine_of system q) b
+  pub alike : Alike (machine_of system p) a b
+
+module _ {V M : Type 0} (meaning : V → M) (system : System M) (p q : Panel) (left right : List (EventRecord V)) (a b : Account M) (both : RestAlike meaning system p q left right a b) where
   machines : machine_of system q ≡ machine_of system p
-  machines = ap₂ (λ c j. machine system c (j - 1)) (sym circuits) (sym strides)
+  machines = ap₂ (machine system) (sym both.circuits) (sym both.rooms)
 
   log : Log (machine_of system p) b
-  log = subst (λ m. Log m b) machines k.log
+  log = subst (λ m. Log m b) machines both.there.log
 
-  agree : Agree (machine_of system p) a b
-  agree = alike_rests_agree system p.circuit (room p) is.wired a b h.log log rests (subst (λ m. Rest m b) machines rests_too) alike
+  pub agree : Agree (machine_of system p) a b
+  agree = alike_rests_agree system p.circuit (room p) both.sure.wired a b both.here.log log both.rests_here (subst (λ m. Rest m b) machines both.rests_there) both.alike
 
   one_list : (n : ℕ) (ts us : List ℕ) → KeptChanges (machine_of system p) b n ts → KeptChanges (machine_of system p) b n us → ts ≡ us
-  one_list = (kept_changes_fit system p.circuit (room p) is.wired b log).one_list
+  one_list = (kept_changes_fit system p.circuit (room p) both.sure.wired b log).one_list
+
+  strides : 0 < lines p.circuit → p.stride ≡ q.stride
+  strides some = let here = both.records_here some in let there = both.records_there some in omega (arith, both.rooms)
 
   parts_same : (n : ℕ) → 0 < n → n ≤ lines p.circuit → part p.stride n (map (seen meaning) left) ≡ part p.stride n (map (seen meaning) right)
   parts_same n some within =
       of_map left
-      ∙ (told_same (machine_of system p) a b agree alike.trims one_list system.start n (p.progress n).kept (q.progress n).kept (map (seen meaning) (part p.stride n left)) (map (seen meaning) (part p.stride n right)) line (trim_reached meaning system p left a is h n line) (h.shows.records n line) told
+      ∙ (told_same (machine_of system p) a b agree both.alike.trims one_list system.start n (p.progress n).kept (q.progress n).kept (map (seen meaning) (part p.stride n left)) (map (seen meaning) (part p.stride n right)) line (trim_reached meaning system p left a both.sure both.here n line) (both.here.shows.records n line) told
       ∙ sym (of_map right))
     where
       of_map : (rs : List (EventRecord V)) → part p.stride n (map (seen meaning) rs) ≡ map (seen meaning) (part p.stride n rs)
@@ -162,15 +179,24 @@ module _ {V M : Type 0} (meaning : V → M) (system : System M) (p q : Panel) (l
 
       told : Tells (machine_of system p) system.start b n (settled (topology p.circuit) b n) (q.progress n).kept (map (seen meaning) (part p.stride n right))
       told =
-          subst (λ j. Tells (machine_of system p) system.start b n (settled (topology p.circuit) b n) (q.progress n).kept (map (seen meaning) (part j n right))) (sym strides)
+          subst (λ j. Tells (machine_of system p) system.start b n (settled (topology p.circuit) b n) (q.progress n).kept (map (seen meaning) (part j n right))) (sym (strides (omega (arith, some, within))))
           (subst (λ m. Tells m system.start b n (settled m.topology b n) (q.progress n).kept (map (seen meaning) (part q.stride n right))) machines
-          (k.shows.records n (subst (λ m. IsLine m.topology n) (sym machines) line)))
+          (both.there.shows.records n (subst (λ m. IsLine m.topology n) (sym machines) line)))
 
   pub stores_same : map (seen meaning) (take (extent p) left) ≡ map (seen meaning) (take (extent q) right)
-  stores_same =
+  stores_same = ⊎_elim
+      (λ some.
       sym (take-map (seen meaning) (extent p) left)
       ∙ (whole_same p.stride (lines p.circuit) (map (seen meaning) left) (map (seen meaning) right) parts_same
-      ∙ (take-map (seen meaning) (extent p) right ∙ ap (λ e. map (seen meaning) (take e right)) (ap₂ (λ c j. lines c * j) circuits strides)))
+      ∙ (take-map (seen meaning) (extent p) right ∙ ap (λ e. map (seen meaning) (take e right)) (ap₂ (λ c j. lines c * j) both.circuits (strides some)))))
+      (λ none. nothing left (extent p) (empty p.circuit p.stride none) ∙ sym (nothing right (extent q) (empty q.circuit q.stride (subst (λ c. lines c ≤ 0) both.circuits none))))
+      (cases_lt 0 (lines p.circuit))
+    where
+      empty : (c : Circuit) (stride : ℕ) → lines c ≤ 0 → lines c * stride ≡ 0
+      empty c stride none = let zero_lines : lines c ≡ 0 = omega arith in ap (λ k. k * stride) zero_lines ∙ zero-mul stride
+
+      nothing : (rs : List (EventRecord V)) (k : ℕ) → k ≡ 0 → map (seen meaning) (take k rs) ≡ []
+      nothing rs k is = ap (λ j. map (seen meaning) (take j rs)) is
 
   pub asked_same : AnswerAlike (machine_of system p) (machine_of system q) a b
-  asked_same = subst (λ m. AnswerAlike (machine_of system p) m a b) (sym machines) (answer_alike (machine_of system p) a b agree alike.trims one_list)
+  asked_same = subst (λ m. AnswerAlike (machine_of system p) m a b) (sym machines) (answer_alike (machine_of system p) a b agree both.alike.trims one_list)

@@ -23,7 +23,7 @@ use Rattle.engine.specs.Answers.{numbered, Making}
 use Rattle.engine.specs.Lines.{Panel, extent, Holds}
 use Rattle.engine.specs.Makings.{base, AllBegun, AllRight}
 use Rattle.engine.specs.Recordings.{begun}
-use Rattle.engine.specs.Sessions.{Lineless, Fresh, Made}
+use Rattle.engine.specs.Sessions.{NotMade, Fresh, Made}
 use Rattle.engine.specs.Standing.{Tells, machine_of, Shows, Stands}
 use Rattle.engine.specs.Stores.{part, seen}
 use Rattle.engine.proofs.Books.{of_line}
@@ -81,9 +81,9 @@ pub no_more : (p : Panel) (c : Circuit) (records : ℕ) → p.circuit ≡ c → 
 no_more p c records same each = subst (λ e. e ≤ records) (sym (ap₂ (λ d k. lines d * k) same each)) (mul-div-le records (lines c))
 
 -- a refused making leaves a session without lines
-pub refused_so : {V M : Type 0} (meaning : V → M) (system : System M) (filler : V) (c : Circuit) (starts : List V) (store : List (EventRecord V)) (s : Session V) (r : Result Unit Refusal) → ((x : Unit) → r ≡ Ok x → ⊥) → Lineless store s → Made meaning system filler c starts store s (numbered r)
-refused_so meaning system filler c starts store s (Ok x) other lineless = absurd (other x refl)
-refused_so meaning system filler c starts store s (Err r) other lineless = Made.refused lineless
+pub refused_so : {V M : Type 0} (meaning : V → M) (system : System M) (filler : V) (c : Circuit) (starts : List V) (store : List (EventRecord V)) (s : Session V) (r : Result Unit Refusal) → ((x : Unit) → r ≡ Ok x → ⊥) → NotMade meaning system filler c starts store s → Made meaning system filler c starts store s (numbered r)
+refused_so meaning system filler c starts store s (Ok x) other not_made = absurd (other x refl)
+refused_so meaning system filler c starts store s (Err r) other not_made = Made.refused not_made
 
 -- an accepted one gives a fresh session
 pub made_so : {V M : Type 0} (meaning : V → M) (system : System M) (filler : V) (c : Circuit) (starts : List V) (store : List (EventRecord V)) (s : Session V) (r : Result Unit Refusal) (x : Unit) → r ≡ Ok x → Fresh meaning system filler c starts store s → Made meaning system filler c starts store s (numbered r)

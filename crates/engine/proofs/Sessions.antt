@@ -6,6 +6,7 @@ use borrow.Rule.Slice.Mut.{set_vals}
 use Rattle.events.specs.declared.record.EventRecord.{EventRecord}
 use Rattle.netlist.specs.declared.refusal.Refusal.{Refusal}
 use Rattle.semantics.specs.Accounts.{Account}
+use Rattle.semantics.specs.Circuits.{lines}
 use Rattle.semantics.specs.Logs.{Ending, Takes, Run, Step, Steps}
 use Rattle.semantics.specs.Machines.{Machine, IsLine}
 use Rattle.semantics.specs.Moves.{made, trimmed}
@@ -15,7 +16,8 @@ use Rattle.engine.specs.Sessions.{lines_of, HasNoLines, machine_in, StandsFor}
 use Rattle.engine.proofs.Books.{of_line}
 use Rattle.engine.specs.declared.lines.Lines.{Lines}
 use Rattle.engine.specs.declared.session.Session.{Session}
-use Rattle.engine.specs.Lines.{panel, Holds}
+use Rattle.engine.specs.Lines.{Panel, panel, Holds}
+use Rattle.engine.specs.Standing.{machine_of, Shows, Stands}
 
 module _ {V : Type 0} where
   abbrev of : (l : Lines) (m : MutBor (List (EventRecord V))) → Holds (panel l) m.now → Session V
@@ -33,6 +35,22 @@ module _ {V : Type 0} where
   untouched (Ok x) s s' store is same = tt
   untouched (Err x) s s' store is same = same_session s s' same.0 (is ∙ ap (λ xs. set_vals xs s.store) same.1)
 
+-- where there are no lines, every account of the trim tick is shown
+module _ {V M : Type 0} (meaning : V → M) (system : System M) (p : Panel) (none : lines p.circuit ≡ 0) where
+  no_line : (n : ℕ) → IsLine (machine_of system p).topology n → ⊥
+  no_line n is_line = let range = of_line p n is_line in omega (arith, range.0, range.1, none)
+
+  pub empty_shows : (store : List (EventRecord V)) (a : Account M) → p.trim ≡ a.trim → Shows meaning system p store a
+  empty_shows store a same = record {
+    trim = same;
+    ends = λ n an_input. absurd (no_line n (inl an_input));
+    fronts = λ n a_gate. absurd (no_line n (inr a_gate));
+    records = λ n is_line. absurd (no_line n is_line);
+  }
+
+  pub empty_made : (store : List (EventRecord V)) → p.trim ≡ 0 → Stands meaning system p store (made (λ n. system.start))
+  empty_made store untrimmed = record { log = record { start = λ n. system.start; steps = Steps.none }; shows = empty_shows store (made (λ n. system.start)) untrimmed }
+
 -- An account for which a session without lines stands: nothing was given.
 pub record Nothing {V M : Type 0} (meaning : V → M) (system : System M) (s : Session V) : Type 0 where
   pub account : Account M
@@ -45,20 +63,12 @@ nothing_given meaning system s none = record {
   stands = record {
     log = record {
       start = λ n. system.start;
-      steps = Steps.then Steps.none (Step.trim (record { not_past = omega arith; ends_reach = λ n an_input. absurd (no_line n (inl an_input)); fronts_reach = λ n a_gate. absurd (no_line n (inr a_gate)) }));
+      steps = Steps.then Steps.none (Step.trim (record { not_past = omega arith; ends_reach = λ n an_input. absurd (no_line meaning system (lines_of s) none n (inl an_input)); fronts_reach = λ n a_gate. absurd (no_line meaning system (lines_of s) none n (inr a_gate)) }));
     };
-    shows = record {
-      trim = refl;
-      ends = λ n an_input. absurd (no_line n (inl an_input));
-      fronts = λ n a_gate. absurd (no_line n (inr a_gate));
-      records = λ n is_line. absurd (no_line n is_line);
-    };
+    shows = empty_shows meaning system (lines_of s) none s.store.now (trimmed (made (λ n. system.start)) (lines_of s).trim) refl;
   };
-  no_line = no_line;
+  no_line = no_line meaning system (lines_of s) none;
 }
-  where
-    no_line : (n : ℕ) → IsLine (machine_in system s).topology n → ⊥
-    no_line n is_line = let range = of_line (lines_of s) n is_line in omega (arith, range.0, range.1, none)
 
 -- what calls answer where there are no lines
 module _ {M : Type 0} (s : Machine M) (a : Account M) (none : (n : ℕ) → IsLine s.topology n → ⊥) where

@@ -4,7 +4,7 @@ use Rattle.semantics.specs.Accounts.{Account}
 use Rattle.semantics.specs.Machines.{Machine}
 use Rattle.engine.specs.declared.session.Session.{Session}
 use Rattle.engine.specs.Answers.{Valued, Eventful, Stated}
-use Rattle.engine.specs.Lines.{extent}
+use Rattle.engine.specs.Lines.{room, extent}
 use Rattle.engine.specs.Sessions.{lines_of}
 use Rattle.engine.specs.Stores.{seen}
 
@@ -12,12 +12,12 @@ use Rattle.engine.specs.Stores.{seen}
 abbrev pub store_of : {V M : Type 0} → (V → M) → Session V → List (ℕ × M)
 store_of meaning s = map (seen meaning) (take (extent (lines_of s)) s.store.now)
 
--- two sessions have the same netlist, and as many records for each line
-pub record SameNetlist {V : Type 0} (s q : Session V) : Type 0 where
+-- two sessions have the same circuit, and room for as many changes of each line
+pub record SameCircuitAndRoom {V : Type 0} (s q : Session V) : Type 0 where
   pub circuit : (lines_of s).circuit ≡ (lines_of q).circuit
-  pub stride : (lines_of s).stride ≡ (lines_of q).stride
+  pub room : room (lines_of s) ≡ room (lines_of q)
 
--- whatever is asked, both give the same answer
+-- asked for a value, a change or a state, both give the same answer
 pub record AnswerAlike {M : Type 0} (s q : Machine M) (a b : Account M) : Type 0 where
   pub values : (n t : ℕ) (x y : Result M ℕ) → Valued s a n t x → Valued q b n t y → x ≡ y
   pub events : (n k : ℕ) (x y : Result (ℕ × M) ℕ) → Eventful s a n k x → Eventful q b n k y → x ≡ y

@@ -22,8 +22,8 @@ module _ {V : Type 0} (filler : V) (stride : ℕ) (store : List (EventRecord V))
   AllBegun c = (n : ℕ) → IsLine (topology c) n → part stride n store ≡ begun (part stride n store) (base n) filler
 
 module _ {M : Type 0} (s : System M) (c : Circuit) where
-  -- A gate's line gets what its gate makes of what the lines that it reads begin with, unless it is looped; and no line else
-  -- gets another value.
+  -- A gate's line gets what its gate makes of what the lines that it reads begin with, unless it is looped; and no other
+  -- line gets another value.
   pub record SettledAt (line : ℕ) (begins begins' : ℕ → M) : Type 0 where
     pub its_own : IsGate (topology c) line → (Looped c line → ⊥) → begins' line ≡ gate_function s (gate_of_line c line).kind (map begins (reads c line))
     pub looped : IsGate (topology c) line → Looped c line → begins' line ≡ begins line

@@ -6,7 +6,7 @@ use Rattle.netlist.specs.Closed.{circuit, progress_of}
 use Rattle.netlist.specs.GateRow.{at_start}
 use Rattle.semantics.specs.Circuits.{lines}
 
--- where a netlist tells it of its gates, and a list of its inputs
+-- a netlist's rows tell it of the gates, and a list of the inputs
 abbrev pub progress_in : Netlist → List Progress → ℕ → Progress
 progress_in netlist inputs zero = at_start
 progress_in netlist inputs (suc k) = cond (nat_lt k (circuit netlist).inputs) (slice_index_or inputs k at_start) (progress_of netlist (suc k))

@@ -33,13 +33,6 @@ pub record KeepsItsOwn {V : Type 0} (s s' : Session V) : Type 0 where
   pub same_store : s'.store.ghost_name ≡ s.store.ghost_name
   pub keeps : Keeps (lines_of s) (lines_of s') s.store.now s'.store.now
 
--- a session without lines, in a store to which nothing was written
-pub record Lineless {V : Type 0} (old : List (EventRecord V)) (s : Session V) : Type 0 where
-  pub circuit : (lines_of s).circuit ≡ nothing
-  pub no_room : room (lines_of s) ≡ 0
-  pub untrimmed : (lines_of s).trim ≡ 0
-  pub untouched : s.store.now ≡ old
-
 -- what initial values, given in the inputs' order, mean
 abbrev pub given : {V M : Type 0} → (V → M) → V → List V → ℕ → M
 given meaning filler starts n = meaning (slice_index_or starts (n - 1) filler)
@@ -54,9 +47,16 @@ module _ {V M : Type 0} (meaning : V → M) (system : System M) (filler : V) (c 
     pub beyond : drop (extent (lines_of s)) s.store.now ≡ drop (extent (lines_of s)) old
     pub stands : StandsFor meaning system s (made (given meaning filler starts))
 
+  -- One that could not be made has no lines, and nothing was written. It stands for an account too: nothing was given.
+  pub record NotMade : Type 0 where
+    pub circuit : (lines_of s).circuit ≡ nothing
+    pub no_room : room (lines_of s) ≡ 0
+    pub untouched : s.store.now ≡ old
+    pub stands : StandsFor meaning system s (made (λ n. system.start))
+
   -- what making comes to, where it is refused and where it is not
   pub data Made : Result Unit ℕ → Type 0 where
-    refused : {number : ℕ} → Lineless old s → Made (Err number)
+    refused : {number : ℕ} → NotMade → Made (Err number)
     accepted : Fresh → Made (Ok tt)
 
 -- every line is settled exactly to its distance

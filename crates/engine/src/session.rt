@@ -89,7 +89,7 @@ impl<'a, V: ValueSystem> Session<'a, V> {
         giving::hold(&mut self.lines, self.store, line, tick)
     }
 
-    // Takes a gate: its front moves on towards its goal, and no other line does. Answers how far its line is settled.
+    // Takes a gate: its front moves on towards its goal, and no other front does. Answers how far its line is settled.
     pub fn take(&mut self, line: u32) -> Result<u32, Refusal>
         ensures keeps { KeepsItsOwn self.old self.new }
         ensures refused { OnErr result (self.new ≡ self.old) }
@@ -104,7 +104,8 @@ impl<'a, V: ValueSystem> Session<'a, V> {
         ensures keeps { KeepsItsOwn self.old self.new }
         ensures without_lines { HasNoLines self.old → (result.takes ≡ 0) × (ending_of result.ending ≡ Logs.Ending.rest) }
         ensures answers { (a : Account V.Sense) → StandsFor V.meaning V.system self.old a → (b : Account V.Sense) × Run (machine_in V.system self.old) most a b result.takes (ending_of result.ending) × StandsFor V.meaning V.system self.new b }
-        ensures settled_to_distances { ending_of result.ending ≡ Logs.Ending.rest → (b : Account V.Sense) → StandsFor V.meaning V.system self.new b → Rest (machine_in V.system self.new) b × SettledToDistances (machine_in V.system self.new) b }
+        ensures rests { ending_of result.ending ≡ Logs.Ending.rest → (b : Account V.Sense) → StandsFor V.meaning V.system self.new b → Rest (machine_in V.system self.new) b }
+        ensures settled_to_distances { ending_of result.ending ≡ Logs.Ending.rest → (b : Account V.Sense) → StandsFor V.meaning V.system self.new b → SettledToDistances (machine_in V.system self.new) b }
     {
         running::run(&mut self.lines, self.store, most)
     }
@@ -153,7 +154,7 @@ impl<'a, V: ValueSystem> Session<'a, V> {
 
     // The netlist that is simulated.
     pub fn netlist(&self) -> &Netlist
-        ensures is_its_netlist { circuit result.now ≡ (lines_of self.now).circuit }
+        ensures is_its_netlist { result.now ≡ self.now.lines.netlist }
     {
         &self.lines.netlist
     }

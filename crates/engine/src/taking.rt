@@ -72,7 +72,7 @@ fn follow<V: ValueSystem>(
     }
 }
 
-// Takes a gate: its front moves on towards its goal, and no other line does. Answers how far its line is settled.
+// Takes a gate: its front moves on towards its goal, and no other front does. Answers how far its line is settled.
 pub(crate) fn take<V: ValueSystem>(
     lines: &mut Lines,
     store: &mut [EventRecord<V>],

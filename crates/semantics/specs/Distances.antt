@@ -15,7 +15,7 @@ module _ {M : Type 0} (s : Machine M) (a : Account M) where
     pub overflows : Overflows s a n stop
     pub early : (far : ℕ) → Path n far → stop < far
 
-  -- a path that may also start after an overfull line, at its stop
+  -- a path that may also start at an overfull line, with its stop in place of an end
   pub data LimitedPath : ℕ → ℕ → Type 0 where
     from_input : {n : ℕ} → IsInput s.topology n → LimitedPath n (a.end n)
     from_stop : {n stop : ℕ} → Overfull n stop → LimitedPath n stop

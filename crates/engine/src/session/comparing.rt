@@ -30,11 +30,11 @@ fn same_records<V: ValueSystem>(left: &[EventRecord<V>], right: &[EventRecord<V>
 impl<'a, V: ValueSystem> Session<'a, V> {
     ghost use Rattle.std.specs.Prelude.{take, true, false, Ok, Err, ◌≢◌};
     ghost use Rattle.engine.specs.Answers.{numbered};
-    ghost use Rattle.engine.specs.Comparing.{store_of, SameNetlist, AnswerAlike, Tying};
+    ghost use Rattle.engine.specs.Comparing.{store_of, SameCircuitAndRoom, AnswerAlike, Tying};
     ghost use Rattle.engine.specs.Lines.{extent};
     ghost use Rattle.engine.specs.Sessions.{lines_of, HasNoLines, machine_in, StandsFor};
     ghost use Rattle.semantics.specs.Accounts.{Account};
-    ghost use Rattle.semantics.specs.Comparisons.{Alike, GivenTied, LinesTied};
+    ghost use Rattle.semantics.specs.Comparisons.{Alike, Agree, GivenTied, LinesTied};
     ghost use Rattle.semantics.specs.Moves.{Rest};
     ghost use Rattle.values.specs.Relations.{Tied};
 
@@ -45,11 +45,12 @@ impl<'a, V: ValueSystem> Session<'a, V> {
         &self.store[..self.lines.netlist.lines() * self.lines.stride]
     }
 
-    // Whether two sessions have equal stores: equal ticks, and values that mean the same. At rest they have, if they were given
-    // the same, however their logs were cut and in whatever order gates were taken; and they answer the same.
+    // Whether two sessions have equal stores: equal ticks, and values that mean the same. At rest they have, if they have one
+    // circuit and room and were given the same, however their logs were cut and in whatever order gates were taken; and they
+    // answer the same. Sessions that were given otherwise may have equal stores too.
     pub fn same_store(&self, other: &Session<V>) -> bool
         ensures decides { Decides result (store_of V.meaning self.now ≡ store_of V.meaning other.now) }
-        ensures alike_rests_agree { SameNetlist self.now other.now → (a b : Account V.Sense) → StandsFor V.meaning V.system self.now a → StandsFor V.meaning V.system other.now b → Rest (machine_in V.system self.now) a → Rest (machine_in V.system other.now) b → Alike (machine_in V.system self.now) a b → (result ≡ true) × AnswerAlike (machine_in V.system self.now) (machine_in V.system other.now) a b }
+        ensures alike_rests_agree { SameCircuitAndRoom self.now other.now → (a b : Account V.Sense) → StandsFor V.meaning V.system self.now a → StandsFor V.meaning V.system other.now b → Rest (machine_in V.system self.now) a → Rest (machine_in V.system other.now) b → Alike (machine_in V.system self.now) a b → (result ≡ true) × Agree (machine_in V.system self.now) a b × AnswerAlike (machine_in V.system self.now) (machine_in V.system other.now) a b }
     {
         same_records(self.records(), other.records())
     }

@@ -1,6 +1,6 @@
 use Rattle.std.proofs.Common.{◌≡◌, ◌-◌, ◌*◌, ◌/◌, ◌<◌, ◌≤◌, length, refl, ap, sym, ◌∙◌, subst}
 use Rattle.netlist.specs.Closed.{circuit}
-use Rattle.netlist.specs.Gates.{Circuit}
+use Rattle.netlist.specs.Gates.{Circuit, nothing}
 use Rattle.semantics.specs.Circuits.{lines}
 use Rattle.engine.specs.Answers.{numbered}
 use Rattle.engine.specs.Lines.{Panel, panel}
@@ -8,20 +8,25 @@ use Rattle.engine.specs.Sessions.{given}
 use Rattle.engine.proofs.Books.{sure}
 use Rattle.engine.proofs.Made.{accepted_so, some_each, no_more, refused_so, made_so, shows_made, stands_made}
 use Rattle.engine.proofs.Moving.{keeps_on}
+use Rattle.engine.proofs.Sessions.{empty_made}
 use Rattle.engine.proofs.session.Session.make.Goals as goal
 
 pub returns-in_default-clause-makes : goal.returns-in_default-clause-makes
-returns-in_default-clause-makes g c = (
-  numbered c.check.result,
-  c.check.ensures.answers,
-  refused_so g.V.ValueSystem.meaning g.V.ValueSystem.system g.V.ValueSystem.START (circuit c.args.netlist) c.args.starts.now c.args.store.now _ c.check.result c.in_default.not-Ok
-      (record {
-        circuit = ap (λ (p : Panel). p.circuit) c.new.ensures ∙ c.empty.ensures;
-        no_room = ap (λ (p : Panel). p.stride - 1) c.new.ensures;
-        untrimmed = ap (λ (p : Panel). p.trim) c.new.ensures;
-        untouched = refl;
-      }),
-)
+returns-in_default-clause-makes g c =
+    let meaning = g.V.ValueSystem.meaning in
+    let system = g.V.ValueSystem.system in
+    let p = panel c.new.result in
+    let empty : p.circuit ≡ nothing = ap (λ (q : Panel). q.circuit) c.new.ensures ∙ c.empty.ensures in (
+      numbered c.check.result,
+      c.check.ensures.answers,
+      refused_so meaning system g.V.ValueSystem.START (circuit c.args.netlist) c.args.starts.now c.args.store.now _ c.check.result c.in_default.not-Ok
+          (record {
+            circuit = empty;
+            no_room = ap (λ (q : Panel). q.stride - 1) c.new.ensures;
+            untouched = refl;
+            stands = empty_made meaning system p (ap lines empty) c.args.store.now (ap (λ (q : Panel). q.trim) c.new.ensures);
+          }),
+    )
 
 pub nonzero_div-stride : goal.nonzero_div-stride
 nonzero_div-stride g c =

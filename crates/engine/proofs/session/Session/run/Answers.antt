@@ -15,4 +15,4 @@ returns-clause-settled_to_distances g c rests b stands =
     let system = g.V.ValueSystem.system in
     let p = panel c.run.new.lines in
     let rest = c.run.ensures.rests rests b stands in
-    (rest, settled_is_the_distance system p.circuit (room p) (sure c.run.new.lines).wired b stands.log rest)
+    settled_is_the_distance system p.circuit (room p) (sure c.run.new.lines).wired b stands.log rest

@@ -1,5 +1,6 @@
 // The tests by their subject.
 mod base;
+mod comparing;
 mod kinds;
 mod largest;
 mod loops;

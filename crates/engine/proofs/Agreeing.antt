@@ -15,7 +15,8 @@ use Rattle.semantics.specs.Circuits.{lines, topology}
 use Rattle.semantics.specs.Comparisons.{Alike, Agree}
 use Rattle.semantics.specs.Logs.{Log}
 use Rattle.semantics.specs.Moves.{Rest}
-use Rattle.semantics.proofs.Proved.{alike_rests_agree, kept_changes_fit}
+use Rattle.semantics.proofs.Proved.{alike_rests_agree}
+use Rattle.semantics.proofs.Listing.{one_list}
 use Rattle.values.specs.Systems.{System}
 use Rattle.engine.specs.Lines.{Panel, room, extent}
 use Rattle.semantics.specs.Machines.{Machine, IsLine}
@@ -23,8 +24,9 @@ use Rattle.engine.specs.Answers.{Valued, Eventful, Stated}
 use Rattle.engine.specs.Comparing.{AnswerAlike}
 use Rattle.engine.specs.Standing.{Tells, machine_of, Stands}
 use Rattle.engine.specs.Stores.{part, seen}
-use Rattle.engine.proofs.Books.{Sure, same_each, trim_reached, line_of}
+use Rattle.engine.proofs.Books.{Sure, trim_reached, line_of}
 use Rattle.engine.proofs.Reading.{ticks_below}
+use Rattle.engine.proofs.Retelling.{retell}
 
 -- lists seen alike have elements seen alike
 pub same_at : {X Y : Type 0} (see : X → Y) (xs ys : List X) (i : ℕ) (d e : X) → map see xs ≡ map see ys → i < length xs → i < length ys → see (get_or xs i d) ≡ see (get_or ys i e)
@@ -47,13 +49,28 @@ whole_same {X = X} stride (suc count) xs ys parts = cut xs ∙ (ap₂ ◌++◌ (
         let place : count ≡ suc count - 1 = omega arith in
         ap (λ k. take k zs) (suc-mul count stride) ∙ (take-add (count * stride) stride zs ∙ ap (λ k. take (count * stride) zs ++ take stride (drop (k * stride) zs)) place)
 
-module _ {M : Type 0} (s : Machine M) (a b : Account M) (agree : Agree s a b) (trims : a.trim ≡ b.trim) (one_list : (n : ℕ) (ts us : List ℕ) → KeptChanges s b n ts → KeptChanges s b n us → ts ≡ us) where
-  before_same : (n t : ℕ) → IsLine s.topology n → t ≤ settled s.topology a n → before s a n t ≡ before s b n t
-  before_same n zero line within = agree.initial_values n line
-  before_same n (suc t) line within = agree.values n t line (omega arith)
+-- records that tell one line of one account are the same
+one_telling : {M : Type 0} (s : Machine M) (filler : M) (a : Account M) (n to kept other : ℕ) (rs qs : List (ℕ × M)) → Tells s filler a n to kept rs → Tells s filler a n to other qs → rs ≡ qs
+one_telling {M = M} s filler a n to kept other rs qs h k =
+    split_same (suc kept) rs qs
+    (h.shown ∙ (ap (λ ts. (a.trim, before s a n a.trim) ∷ map change ts) ticks ∙ sym (ap (λ c. take (suc c) qs) count ∙ k.shown)))
+    (h.spare ∙ (ap (λ c. replicate (s.room - c) (0, filler)) count ∙ sym (ap (λ c. drop (suc c) qs) count ∙ k.spare)))
+  where
+    change : ℕ → ℕ × M
+    change t = (t, value s a n t)
+
+    ticks : h.ticks ≡ k.ticks
+    ticks = one_list h.changes k.changes
+
+    count : kept ≡ other
+    count = sym h.count ∙ (ap length ticks ∙ k.count)
+
+module _ {M : Type 0} (s : Machine M) (a b : Account M) (agree : Agree s a b) (trims : a.trim ≡ b.trim) where
+  settled_same : (n : ℕ) → IsLine s.topology n → settled s.topology a n ≡ settled s.topology b n
+  settled_same n line = agree.settled_times n line
 
   ticks_same : (n : ℕ) (ts us : List ℕ) → IsLine s.topology n → KeptChanges s a n ts → KeptChanges s b n us → ts ≡ us
-  ticks_same n ts us line kept also = one_list n ts us (agree.kept_changes n ts line kept) also
+  ticks_same n ts us line kept also = one_list (agree.kept_changes n ts line kept) also
 
   -- the value at a kept change
   value_same : (n : ℕ) (ts : List ℕ) (t : ℕ) → IsLine s.topology n → KeptChanges s a n ts → Contains ts t → value s a n t ≡ value s b n t
@@ -62,30 +79,9 @@ module _ {M : Type 0} (s : Machine M) (a b : Account M) (agree : Agree s a b) (t
   -- their records are seen alike
   pub told_same : (filler : M) (n kept other : ℕ) (rs qs : List (ℕ × M)) → IsLine s.topology n → a.trim ≤ settled s.topology a n → Tells s filler a n (settled s.topology a n) kept rs → Tells s filler b n (settled s.topology b n) other qs → rs ≡ qs
   told_same filler n kept other rs qs line reached h k =
-      split_same (suc kept) rs qs
-      (h.shown ∙ (ap₂ ◌∷◌ (ap₂ pair trims (before_same n a.trim line reached ∙ ap (before s b n) trims)) changes ∙ sym (ap (λ c. take (suc c) qs) count ∙ k.shown)))
-      (h.spare ∙ (ap (λ c. replicate (s.room - c) (0, filler)) count ∙ sym (ap (λ c. drop (suc c) qs) count ∙ k.spare)))
-    where
-      ticks : h.ticks ≡ k.ticks
-      ticks = ticks_same n h.ticks k.ticks line h.changes k.changes
-
-      count : kept ≡ other
-      count = sym h.count ∙ (ap length ticks ∙ k.count)
-
-      pair : ℕ → M → ℕ × M
-      pair t v = (t, v)
-
-      one : ℕ → ℕ × M
-      one t = (t, value s a n t)
-
-      two : ℕ → ℕ × M
-      two t = (t, value s b n t)
-
-      changes : map one h.ticks ≡ map two k.ticks
-      changes = same_each one two h.ticks (λ t among. ap (λ v. (t, v)) (value_same n h.ticks t line h.changes among)) ∙ ap (map two) ticks
-
-  settled_same : (n : ℕ) → IsLine s.topology n → settled s.topology a n ≡ settled s.topology b n
-  settled_same n line = agree.settled_times n line
+      one_telling s filler b n (settled s.topology a n) kept other rs qs
+      (retell s filler n (settled s.topology a n) kept rs a b (sym trims) reached (agree.initial_values n line) (λ u below. agree.values n u line below) h)
+      (subst (λ to. Tells s filler b n to other qs) (sym (settled_same n line)) k)
 
   values_alike : (n t : ℕ) (x y : Result M ℕ) → Valued s a n t x → Valued s b n t y → x ≡ y
   values_alike n t x y (Valued.no_line none) (Valued.no_line also) = refl
@@ -159,16 +155,13 @@ module _ {V M : Type 0} (meaning : V → M) (system : System M) (p q : Panel) (l
   pub agree : Agree (machine_of system p) a b
   agree = alike_rests_agree system p.circuit (room p) both.sure.wired a b both.here.log log both.rests_here (subst (λ m. Rest m b) machines both.rests_there) both.alike
 
-  one_list : (n : ℕ) (ts us : List ℕ) → KeptChanges (machine_of system p) b n ts → KeptChanges (machine_of system p) b n us → ts ≡ us
-  one_list = (kept_changes_fit system p.circuit (room p) both.sure.wired b log).one_list
-
   strides : 0 < lines p.circuit → p.stride ≡ q.stride
   strides some = let here = both.records_here some in let there = both.records_there some in omega (arith, both.rooms)
 
   parts_same : (n : ℕ) → 0 < n → n ≤ lines p.circuit → part p.stride n (map (seen meaning) left) ≡ part p.stride n (map (seen meaning) right)
   parts_same n some within =
       of_map left
-      ∙ (told_same (machine_of system p) a b agree both.alike.trims one_list system.start n (p.progress n).kept (q.progress n).kept (map (seen meaning) (part p.stride n left)) (map (seen meaning) (part p.stride n right)) line (trim_reached meaning system p left a both.sure both.here n line) (both.here.shows.records n line) told
+      ∙ (told_same (machine_of system p) a b agree both.alike.trims system.start n (p.progress n).kept (q.progress n).kept (map (seen meaning) (part p.stride n left)) (map (seen meaning) (part p.stride n right)) line (trim_reached meaning system p left a both.sure both.here n line) (both.here.shows.records n line) told
       ∙ sym (of_map right))
     where
       of_map : (rs : List (EventRecord V)) → part p.stride n (map (seen meaning) rs) ≡ map (seen meaning) (part p.stride n rs)
@@ -199,4 +192,4 @@ module _ {V M : Type 0} (meaning : V → M) (system : System M) (p q : Panel) (l
       nothing rs k is = ap (λ j. map (seen meaning) (take j rs)) is
 
   pub asked_same : AnswerAlike (machine_of system p) (machine_of system q) a b
-  asked_same = subst (λ m. AnswerAlike (machine_of system p) m a b) (sym machines) (answer_alike (machine_of system p) a b agree both.alike.trims one_list)
+  asked_same = subst (λ m. AnswerAlike (machine_of system p) m a b) (sym machines) (answer_alike (machine_of system p) a b agree both.alike.trims)

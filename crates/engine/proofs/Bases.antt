@@ -1,6 +1,5 @@
 -- The bases of lines that have begun.
-use Rattle.std.proofs.Common.{◌≡◌, ℕ, ◌+◌, ◌-◌, ◌*◌, ◌<◌, ◌≤◌, List, ◌∷◌, length, replicate, set, drop, get_or, get_or-take, get_or-drop, get_or-set_same, length-set, ap, sym, ◌∙◌, subst, ⊎_elim, arith}
-use Rattle.std.proofs.lemmas.Bool.{cases_eq}
+use Rattle.std.proofs.Common.{◌≡◌, ℕ, ◌+◌, ◌-◌, ◌*◌, ◌<◌, ◌≤◌, List, ◌∷◌, length, replicate, set, drop, get_or, get_or-take, get_or-drop, get_or-set_same, length-set, ap, sym, ◌∙◌, subst, arith}
 use Rattle.events.specs.declared.record.EventRecord.{EventRecord}
 use Rattle.netlist.specs.Gates.{Circuit}
 use Rattle.semantics.specs.Circuits.{topology}
@@ -9,7 +8,7 @@ use Rattle.engine.specs.Makings.{base, AllBegun}
 use Rattle.engine.specs.Recordings.{begun}
 use Rattle.engine.specs.Stores.{part, OnlyThere}
 use Rattle.engine.proofs.Books.{positive}
-use Rattle.engine.proofs.Parts.{part_else}
+use Rattle.engine.proofs.Parts.{part_else, one_part}
 
 module _ {V : Type 0} (filler : V) (stride : ℕ) (some : 0 < stride) where
   abbrev pub at_zero : V → EventRecord V
@@ -36,7 +35,9 @@ module _ {V : Type 0} (filler : V) (stride : ℕ) (some : 0 < stride) where
     base_else m some_line other = base_in_part new m ∙ (ap (λ rs. (get_or rs 0 (at_zero filler)).value) (part_else stride line old new numbered there m some_line other) ∙ sym (base_in_part old m))
 
     pub still_begun : (c : Circuit) → AllBegun filler stride old c → AllBegun filler stride new c
-    still_begun c begins m is_line = ⊎_elim here there' (cases_eq m line)
+    still_begun c begins m is_line =
+        one_part stride line old new numbered there (λ k rs. rs ≡ begun rs (base filler stride new k) filler) m (positive c m is_line) at_line
+        (λ other. subst (λ v. part stride m old ≡ begun (part stride m old) v filler) (sym (base_else m (positive c m is_line) other)) (begins m is_line))
       where
         first : m ≡ line → part stride line old ≡ begun (part stride line old) (base filler stride old line) filler
         first same = begins line (subst (IsLine (topology c)) same is_line)
@@ -51,16 +52,6 @@ module _ {V : Type 0} (filler : V) (stride : ℕ) (some : 0 < stride) where
             subst (λ v. part stride line new ≡ begun (part stride line new) v filler) (sym base_here)
             (subst (λ rs. rs ≡ begun rs value filler) (sym written) (again (part stride line old) (base filler stride old line) (first same)))
 
-        here : m ≡ line → part stride m new ≡ begun (part stride m new) (base filler stride new m) filler
-        here same = subst (λ k. part stride k new ≡ begun (part stride k new) (base filler stride new k) filler) (sym same) (at_line same)
-
-        there' : (m ≡ line → ⊥) → part stride m new ≡ begun (part stride m new) (base filler stride new m) filler
-        there' other =
-            let low = positive c m is_line in
-            let stays = part_else stride line old new numbered there m low other in
-            subst (λ rs. rs ≡ begun rs (base filler stride new m) filler) (sym stays)
-            (subst (λ v. part stride m old ≡ begun (part stride m old) v filler) (sym (base_else m low other)) (begins m is_line))
-
 module _ {V : Type 0} (filler : V) (stride : ℕ) (f : ℕ → V) (c : Circuit) where
   -- the lines up to one have begun with given values
   abbrev pub BegunTo : List (EventRecord V) → ℕ → Type 0
@@ -70,16 +61,8 @@ module _ {V : Type 0} (filler : V) (stride : ℕ) (f : ℕ → V) (c : Circuit) 
   begun_none store n is_line upto = let low = positive c n is_line in absurd (omega arith)
 
   -- one line more begins
-  pub begun_more : (old new : List (EventRecord V)) (k : ℕ) → OnlyThere (k * stride) stride old new → length (part stride (k + 1) old) ≡ length (part stride (k + 1) new) → part stride (k + 1) new ≡ begun (part stride (k + 1) old) (f (k + 1)) filler → BegunTo old k → BegunTo new (k + 1)
-  begun_more old new k there as_long written begins m is_line upto = ⊎_elim here else_ (cases_eq m (k + 1))
-    where
-      here : m ≡ k + 1 → part stride m new ≡ begun (part stride m new) (f m) filler
-      here same =
-          subst (λ j. part stride j new ≡ begun (part stride j new) (f j) filler) (sym same)
-          (written ∙ ap (λ j. record { tick = 0; value = f (k + 1) } ∷ replicate (j - 1) (record { tick = 0; value = filler })) as_long)
-
-      else_ : (m ≡ k + 1 → ⊥) → part stride m new ≡ begun (part stride m new) (f m) filler
-      else_ other =
-          let place : k ≡ k + 1 - 1 = omega arith in
-          let stays = part_else stride (k + 1) old new (omega arith) (subst (λ j. OnlyThere (j * stride) stride old new) place there) m (positive c m is_line) other in
-          subst (λ rs. rs ≡ begun rs (f m) filler) (sym stays) (begins m is_line (omega (arith, other)))
+  pub begun_more : (old new : List (EventRecord V)) (k : ℕ) → OnlyThere ((k + 1 - 1) * stride) stride old new → length (part stride (k + 1) old) ≡ length (part stride (k + 1) new) → part stride (k + 1) new ≡ begun (part stride (k + 1) old) (f (k + 1)) filler → BegunTo old k → BegunTo new (k + 1)
+  begun_more old new k there as_long written begins m is_line upto =
+      one_part stride (k + 1) old new (omega arith) there (λ j rs. rs ≡ begun rs (f j) filler) m (positive c m is_line)
+      (λ same. written ∙ ap (λ j. record { tick = 0; value = f (k + 1) } ∷ replicate (j - 1) (record { tick = 0; value = filler })) as_long)
+      (λ other. begins m is_line (omega (arith, other)))

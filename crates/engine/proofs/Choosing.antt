@@ -6,10 +6,10 @@ use Rattle.std.proofs.lemmas.Bool.Decides.{not_from_Decides}
 use Rattle.std.proofs.lemmas.Bool.{cases_eq, cases_lt, both_ways}
 use Rattle.semantics.specs.Accounts.{Account}
 use Rattle.semantics.specs.Machines.{Machine, IsGate}
-use Rattle.semantics.specs.Moves.{CanMove, Rests, Rest}
+use Rattle.semantics.specs.Moves.{CanMove, ComesBefore, Rests, Rest}
 use Rattle.semantics.proofs.Resting.{no_rest}
 use Rattle.engine.specs.declared.running.Candidate.{Candidate}
-use Rattle.engine.specs.Orders.{ComesBefore, MovesFirst, FirstBelow, BestBelow}
+use Rattle.engine.specs.Orders.{MovesFirst, FirstBelow, BestBelow}
 
 -- a front is smaller than that of the best so far, if there is one
 abbrev pub Leads : Option Candidate → ℕ → Type 0

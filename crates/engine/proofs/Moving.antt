@@ -1,5 +1,5 @@
 -- One line comes further, and its records are written: what lines and their records show then.
-use Rattle.std.proofs.Common.{◌≡◌, ℕ, ◌-◌, ◌*◌, List, map, drop, ap, sym, ◌∙◌, subst, ⊎_elim, arith}
+use Rattle.std.proofs.Common.{◌≡◌, ℕ, ◌-◌, ◌*◌, ◌<◌, ◌≤◌, List, map, drop, refl, ap, sym, ◌∙◌, subst, ⊎_elim, arith}
 use mathlib.Core.Path.{ap₂}
 use Rattle.std.proofs.lemmas.Bool.{cases_eq}
 use Rattle.events.specs.declared.record.EventRecord.{EventRecord}
@@ -15,7 +15,14 @@ use Rattle.engine.specs.Lines.{Panel, moved, extent, Holds}
 use Rattle.engine.specs.Standing.{Tells, machine_of, Shows, Keeps}
 use Rattle.engine.specs.Stores.{part, seen, OnlyThere}
 use Rattle.engine.proofs.Books.{positive}
-use Rattle.engine.proofs.Parts.{part_else, later, ends_within}
+use Rattle.engine.proofs.Parts.{one_part, later, ends_within}
+
+-- what is so of a line that has come further, and of each other as it was, is so of all
+pub one_moved : {X : Type 0} (progress : ℕ → Progress) (stride n : ℕ) (x : Progress) (old new : List X) → 0 < n → OnlyThere ((n - 1) * stride) stride old new → (P : ℕ → ℕ → List X → Type 0) (m : ℕ) → 0 < m → (m ≡ n → P n x.kept (part stride n new)) → ((m ≡ n → ⊥) → P m (progress m).kept (part stride m old)) → P m (put progress n x m).kept (part stride m new)
+one_moved progress stride n x old new some there P m positive here else_ =
+    one_part stride n old new some there (λ k rs. P k (put progress n x k).kept rs) m positive
+    (λ is. subst (λ (q : Progress). P n q.kept (part stride n new)) (sym (put_here progress n x)) (here is))
+    (λ other. subst (λ (q : Progress). P m q.kept (part stride m old)) (sym (put_there progress n x m other)) (else_ other))
 
 module _ {V M : Type 0} (meaning : V → M) (system : System M) (p : Panel) (old new : List (EventRecord V)) (a b : Account M) (n : ℕ) (x : Progress) (h : Shows meaning system p old a) (line : IsLine (topology p.circuit) n) (there : OnlyThere ((n - 1) * p.stride) p.stride old new) where
   abbrev s : Machine M
@@ -38,7 +45,9 @@ module _ {V M : Type 0} (meaning : V → M) (system : System M) (p : Panel) (old
     trim = h.trim ∙ others.trim;
     ends = λ m an_input. ⊎_elim (λ is. at_end m is an_input) (λ other. ap (λ (q : Progress). q.tick) (put_there p.progress n x m other) ∙ (h.ends m an_input ∙ others.ends m other)) (cases_eq m n);
     fronts = λ m a_gate. ⊎_elim (λ is. at_front m is a_gate) (λ other. ap (λ (q : Progress). q.tick) (put_there p.progress n x m other) ∙ (h.fronts m a_gate ∙ others.fronts m other)) (cases_eq m n);
-    records = λ m a_line. ⊎_elim (λ is. at_records m is) (λ other. else_records m a_line other) (cases_eq m n);
+    records = λ m a_line.
+        one_moved p.progress p.stride n x old new (positive p.circuit n line) there (λ k kept rs. Tells s system.start b k (settled s.topology b k) kept (map (seen meaning) rs)) m (positive p.circuit m a_line) (λ is. here.records)
+        (λ other. others.records m (p.progress m).kept (map (seen meaning) (part p.stride m old)) a_line other (h.records m a_line));
   }
     where
       at_end : (m : ℕ) → m ≡ n → IsInput s.topology m → (put p.progress n x m).tick ≡ b.end m
@@ -47,25 +56,15 @@ module _ {V M : Type 0} (meaning : V → M) (system : System M) (p : Panel) (old
       at_front : (m : ℕ) → m ≡ n → IsGate s.topology m → (put p.progress n x m).tick ≡ b.front m
       at_front m is a_gate = subst (λ k. IsGate s.topology k → (put p.progress n x k).tick ≡ b.front k) (sym is) (λ g. ap (λ (q : Progress). q.tick) (put_here p.progress n x) ∙ here.fronts g) a_gate
 
-      at_records : (m : ℕ) → m ≡ n → Tells s system.start b m (settled s.topology b m) (put p.progress n x m).kept (map (seen meaning) (part p.stride m new))
-      at_records m is =
-          subst (λ k. Tells s system.start b k (settled s.topology b k) (put p.progress n x k).kept (map (seen meaning) (part p.stride k new))) (sym is)
-          (subst (λ (q : Progress). Tells s system.start b n (settled s.topology b n) q.kept (map (seen meaning) (part p.stride n new))) (sym (put_here p.progress n x)) here.records)
-
-      else_records : (m : ℕ) → IsLine s.topology m → (m ≡ n → ⊥) → Tells s system.start b m (settled s.topology b m) (put p.progress n x m).kept (map (seen meaning) (part p.stride m new))
-      else_records m a_line other =
-          subst (λ (q : Progress). Tells s system.start b m (settled s.topology b m) q.kept (map (seen meaning) (part p.stride m new))) (sym (put_there p.progress n x m other))
-          (subst (λ rs. Tells s system.start b m (settled s.topology b m) (p.progress m).kept (map (seen meaning) rs)) (sym (part_else p.stride n old new (positive p.circuit n line) there m (positive p.circuit m a_line) other))
-          (others.records m (p.progress m).kept (map (seen meaning) (part p.stride m old)) a_line other (h.records m a_line)))
+-- what no call alters stays where only the records of one line are written
+pub keeps_there : {X : Type 0} (p : Panel) (n : ℕ) (old new : List X) → 0 < n → n ≤ lines p.circuit → OnlyThere ((n - 1) * p.stride) p.stride old new → Keeps p p old new
+keeps_there p n old new some within there = record { circuit = refl; stride = refl; same_length = there.same_length; beyond = later p.stride n old new some there (extent p) (ends_within p.stride (lines p.circuit) n some within) }
 
 -- what no call alters stays where one line moves
 pub keeps_moved : {X : Type 0} (p q : Panel) (n : ℕ) (x : Progress) (old new : List X) → q ≡ moved p n x → IsLine (topology p.circuit) n → OnlyThere ((n - 1) * p.stride) p.stride old new → Keeps p q old new
-keeps_moved p q n x old new same line there = record {
-  circuit = ap (λ (o : Panel). o.circuit) same;
-  stride = ap (λ (o : Panel). o.stride) same;
-  same_length = there.same_length;
-  beyond = later p.stride n old new (positive p.circuit n line) there (extent p) (ends_within p.stride (lines p.circuit) n (positive p.circuit n line) (line_range p.circuit n line));
-}
+keeps_moved p q n x old new same line there =
+    let keeps = keeps_there p n old new (positive p.circuit n line) (line_range p.circuit n line) there in
+    record { circuit = ap (λ (o : Panel). o.circuit) same; stride = ap (λ (o : Panel). o.stride) same; same_length = keeps.same_length; beyond = keeps.beyond }
 
 pub keeps_on : {X : Type 0} (p q r : Panel) (old mid new : List X) → Keeps p q old mid → Keeps q r mid new → Keeps p r old new
 keeps_on p q r old mid new first second = record {

@@ -3,7 +3,7 @@ use Rattle.std.proofs.Common.{◌≡◌, ℕ, suc, ◌+◌, ◌-◌, ◌*◌, �
 use mathlib.Core.Path.{ap₂}
 use Rattle.std.proofs.Math.Nat.{mul-le-mul_right, suc-mul}
 use Rattle.std.proofs.lemmas.Slice.{take-put_mid_below, drop-put_mid, between-put_mid}
-use Rattle.std.proofs.lemmas.Bool.{cases_order}
+use Rattle.std.proofs.lemmas.Bool.{cases_eq, cases_order}
 use Rattle.std.proofs.lemmas.List.{take-take, drop_more, drop-take, drop-drop, take-append-drop, take-set-le, drop-set-lt, drop-set-add}
 use Rattle.std.proofs.Math.Seq.{take-set-lt}
 use borrow.Rule.Slice.PartMut.{put_mid}
@@ -80,6 +80,12 @@ module _ {X : Type 0} (stride n : ℕ) (old new : List X) (some : 0 < n) (there 
       (⊎_elim (λ before. earlier ((m - 1) * stride) (ends_within stride (n - 1) m positive (omega arith)))
       (λ after. ap (take stride) (later ((m - 1) * stride) (ends_within stride (m - 1) n some (omega arith)))))
       (cases_order m n)
+
+  -- what is so of that part as it is, and of each other as it was, is so of all
+  pub one_part : (P : ℕ → List X → Type 0) (m : ℕ) → 0 < m → (m ≡ n → P n (part stride n new)) → ((m ≡ n → ⊥) → P m (part stride m old)) → P m (part stride m new)
+  one_part P m positive here there =
+      ⊎_elim (λ is. subst (λ k. P k (part stride k new)) (sym is) (here is)) (λ other. subst (P m) (sym (part_else m positive other)) (there other))
+      (cases_eq m n)
 
   -- where that part stays too, nothing is another
   pub same_store : part stride n new ≡ part stride n old → new ≡ old

@@ -14,8 +14,7 @@ use Rattle.semantics.proofs.Listing.{one_more, onward}
 use Rattle.engine.specs.Recordings.{RecordedIn}
 use Rattle.engine.specs.Standing.{Tells}
 use Rattle.engine.specs.Stores.{seen}
-use Rattle.engine.proofs.Reading.{Splits, ticks_below}
-use Rattle.engine.proofs.Telling.{value_told}
+use Rattle.engine.proofs.Telling as Telling
 
 module _ {E : Type 0} (Alike : E → E → Type 0) where
   -- the three ways to record
@@ -71,10 +70,8 @@ module _ {V M : Type 0} (meaning : V → M) (Alike : V → V → Type 0) (compar
         of_part : (part : List (EventRecord V)) → Tells s filler a n to kept (map (seen meaning) part) → kept < length part → meaning (get_or (take (suc kept) part) (length (take (suc kept) part) - 1) event).value ≡ before s a n to
         of_part [] h within = absurd (omega arith)
         of_part (base ∷ more) h within =
-            let count : length (base ∷ take kept more) - 1 ≡ kept = omega (arith, length-take-le kept more (omega arith)) in
-            let all : Splits h.ticks to kept = record { within = omega (arith, h.count); first = λ i d below. ticks_below h.changes i d (omega (arith, h.count)); others = λ i d from below. absurd (omega (arith, h.count)) } in
-            ap (λ i. meaning (get_or (base ∷ take kept more) i event).value) count
-            ∙ value_told meaning s filler a n to kept (base ∷ more) h base (take kept more) refl to kept event reaches (omega arith) all (omega (arith, length-take-le kept more (omega arith)))
+            let last : length (base ∷ take kept more) - 1 ≡ length (take kept more) = omega arith in
+            ap (λ i. meaning (get_or (base ∷ take kept more) i event).value) last ∙ Telling.last_told meaning s filler a n to kept (base ∷ more) h base (take kept more) refl event reaches
 
     still : Alike (get_or (take (suc kept) part) (length (take (suc kept) part) - 1) event).value v → Stable s a n to
     still same = sym is ∙ (sym ((compared _ v).0 same) ∙ last_told)

@@ -20,7 +20,7 @@ use Rattle.engine.specs.Recordings.{DroppedIn}
 use Rattle.engine.specs.Standing.{Tells, machine_of, Stands, Keeps}
 use Rattle.engine.specs.Stores.{part, seen, OnlyThere}
 use Rattle.engine.proofs.Books.{positive, of_line}
-use Rattle.engine.proofs.Parts.{part_else}
+use Rattle.engine.proofs.Moving.{one_moved}
 use Rattle.std.proofs.lemmas.Bool.{cases_eq}
 use Rattle.engine.proofs.Reading.{Splits, changes_from}
 use Rattle.engine.proofs.Telling.{in_order, value_told, splits_at, changes_told}
@@ -70,8 +70,8 @@ module _ {V M : Type 0} (meaning : V → M) (system : System M) (filler : V) (st
   pub drop_one : a.trim ≤ t → t ≤ settled (topology p.circuit) a n → (q.progress n).kept < length (part q.stride n old) → length (part q.stride n old) ≡ suc (p.stride - 1) → x.kept < length (part q.stride n new) → DroppedIn t (record { tick = 0; value = filler }) (q.progress n).kept (part q.stride n old) x.kept (part q.stride n new) → Dropping meaning system p a t n (moved q n x) new
   drop_one reaches upto within long within' dropped = record {
     ticks = λ m. ⊎_elim (λ is. subst (λ k. (put q.progress n x k).tick ≡ (p.progress k).tick) (sym is) (ap (λ (r : Progress). r.tick) (put_here q.progress n x) ∙ (same_tick ∙ so_far.ticks n))) (λ other. ap (λ (r : Progress). r.tick) (put_there q.progress n x m other) ∙ so_far.ticks m) (cases_eq m n);
-    done = λ m a_line upto. ⊎_elim (λ is. here m is) (λ other. elsewhere m (trimmed a t) a_line other (so_far.done m a_line (omega (arith, other)))) (cases_eq m n);
-    left = λ m a_line after. let other : m ≡ n → ⊥ = λ is. omega arith in elsewhere m a a_line other (so_far.left m a_line (omega arith));
+    done = λ m a_line upto. one_moved q.progress q.stride n x old new some there (told_in (trimmed a t)) m (positive p.circuit m a_line) (λ is. told) (λ other. so_far.done m a_line (omega (arith, other)));
+    left = λ m a_line after. one_moved q.progress q.stride n x old new some there (told_in a) m (positive p.circuit m a_line) (λ is. absurd (omega arith)) (λ other. so_far.left m a_line (omega arith));
   }
     where
       some : 0 < n
@@ -83,15 +83,8 @@ module _ {V M : Type 0} (meaning : V → M) (system : System M) (filler : V) (st
           (tells_trimmed meaning (machine_of system p) filler a n (settled (topology p.circuit) a n) t (q.progress n).kept reaches upto (part q.stride n new) x.kept within' (part q.stride n old) within long
           (subst (λ f. Tells (machine_of system p) f a n (settled (topology p.circuit) a n) (q.progress n).kept (map (seen meaning) (part q.stride n old))) (sym start) (so_far.left n line (omega (arith, some)))) dropped)
 
-      here : (m : ℕ) → m ≡ n → Tells (machine_of system p) system.start (trimmed a t) m (settled (topology p.circuit) a m) (put q.progress n x m).kept (map (seen meaning) (part q.stride m new))
-      here m is =
-          subst (λ k. Tells (machine_of system p) system.start (trimmed a t) k (settled (topology p.circuit) a k) (put q.progress n x k).kept (map (seen meaning) (part q.stride k new))) (sym is)
-          (subst (λ (r : Progress). Tells (machine_of system p) system.start (trimmed a t) n (settled (topology p.circuit) a n) r.kept (map (seen meaning) (part q.stride n new))) (sym (put_here q.progress n x)) told)
-
-      elsewhere : (m : ℕ) (b : Account M) → IsLine (topology p.circuit) m → (m ≡ n → ⊥) → Tells (machine_of system p) system.start b m (settled (topology p.circuit) a m) (q.progress m).kept (map (seen meaning) (part q.stride m old)) → Tells (machine_of system p) system.start b m (settled (topology p.circuit) a m) (put q.progress n x m).kept (map (seen meaning) (part q.stride m new))
-      elsewhere m b a_line other tells =
-          subst (λ (r : Progress). Tells (machine_of system p) system.start b m (settled (topology p.circuit) a m) r.kept (map (seen meaning) (part q.stride m new))) (sym (put_there q.progress n x m other))
-          (subst (λ rs. Tells (machine_of system p) system.start b m (settled (topology p.circuit) a m) (q.progress m).kept (map (seen meaning) rs)) (sym (part_else q.stride n old new some there m (positive p.circuit m a_line) other)) tells)
+      told_in : Account M → ℕ → ℕ → List (EventRecord V) → Type 0
+      told_in b m kept rs = Tells (machine_of system p) system.start b m (settled (topology p.circuit) a m) kept (map (seen meaning) rs)
 
 -- all lines are told from the tick on
 module _ {V M : Type 0} (meaning : V → M) (system : System M) (p q : Panel) (store new : List (EventRecord V)) (a : Account M) (h : Stands meaning system p store a) (t : ℕ) (reaches : a.trim ≤ t) (upto : (n : ℕ) → (0 < n) × (n ≤ lines p.circuit) → t ≤ (p.progress n).tick) where

@@ -1,6 +1,8 @@
 -- Sessions as their reader sees them.
 use Rattle.std.specs.Prelude.{◌≡◌, ℕ, ◌-◌, ◌/◌, List, Ok, Err, Result, length, drop, slice_index_or}
+use Rattle.std.specs.Borrow.{MutBor}
 use Rattle.events.specs.declared.record.EventRecord.{EventRecord}
+use Rattle.netlist.specs.declared.closed.Netlist.{Netlist}
 use Rattle.netlist.specs.Gates.{Circuit, nothing}
 use Rattle.semantics.specs.Accounts.{Account, settled}
 use Rattle.semantics.specs.Circuits.{lines}
@@ -28,9 +30,17 @@ machine_in system s = machine_of system (lines_of s)
 abbrev pub StandsFor : {V M : Type 0} → (V → M) → System M → Session V → Account M → Type 0
 StandsFor meaning system s a = Stands meaning system (lines_of s) s.store.now a
 
+-- the netlist of a session
+abbrev pub netlist_of : {V : Type 0} → Session V → Netlist
+netlist_of s = s.lines.netlist
+
+-- a session was lent this very store
+abbrev pub Lent : {V : Type 0} → MutBor (List (EventRecord V)) → Session V → Type 0
+Lent store s = s.store.ghost_name ≡ store.ghost_name
+
 -- What no call alters: which store was lent, the circuit, how many records each line has, and the records beyond those.
 pub record KeepsItsOwn {V : Type 0} (s s' : Session V) : Type 0 where
-  pub same_store : s'.store.ghost_name ≡ s.store.ghost_name
+  pub same_store : Lent s.store s'
   pub keeps : Keeps (lines_of s) (lines_of s') s.store.now s'.store.now
 
 -- what initial values, given in the inputs' order, mean

@@ -25,7 +25,7 @@ pub struct Session<'a, V> {
 impl<'a, V: ValueSystem> Session<'a, V> {
     ghost use Rattle.std.specs.Prelude.{ℕ, true, OnErr, Err, Result, Decides};
     ghost use Rattle.engine.specs.Answers.{numbered, answered, stated, ending_of, Making, Feeding, Holding, Taking, Trimming, Valued, Eventful, Stated};
-    ghost use Rattle.engine.specs.Sessions.{Made, lines_of, HasNoLines, machine_in, StandsFor, KeepsItsOwn, SettledToDistances};
+    ghost use Rattle.engine.specs.Sessions.{Made, Lent, netlist_of, HasNoLines, machine_in, StandsFor, KeepsItsOwn, SettledToDistances};
     ghost use Rattle.semantics.specs.Accounts.{Account};
     ghost use Rattle.semantics.specs.Logs as Logs;
     ghost use Rattle.semantics.specs.Logs.{Run};
@@ -53,7 +53,7 @@ impl<'a, V: ValueSystem> Session<'a, V> {
     // A session of a netlist, in a lent store, whose inputs begin with these values. Where it cannot be made, nothing is
     // written, and the session has no lines.
     pub fn make(netlist: Netlist, store: &'a mut [EventRecord<V>], starts: &[V]) -> Session<'a, V>
-        ensures same_store { result.store.ghost_name ≡ store.entry.ghost_name }
+        ensures same_store { Lent store.entry result }
         ensures makes { (r : Result Unit ℕ) × Making (circuit netlist) (length store.old) (length starts.now) r × Made V.meaning V.system V.START (circuit netlist) starts.now store.old result r }
     {
         let Ok(()) = Session::check(&netlist, store, starts) else {
@@ -154,7 +154,7 @@ impl<'a, V: ValueSystem> Session<'a, V> {
 
     // The netlist that is simulated.
     pub fn netlist(&self) -> &Netlist
-        ensures is_its_netlist { result.now ≡ self.now.lines.netlist }
+        ensures is_its_netlist { result.now ≡ netlist_of self.now }
     {
         &self.lines.netlist
     }

@@ -65,10 +65,14 @@ module _ {M : Type 0} where
       pub below : a.front n < goal s.topology a n
       pub room : Overflows s a n (a.front n + s.topology.lag n) → ⊥
 
+    -- the first gate has a smaller front than the second, or the same front and no greater line
+    abbrev pub ComesBefore : ℕ → ℕ → Type 0
+    ComesBefore n m = (a.front n < a.front m) ⊎ ((a.front n ≡ a.front m) × n ≤ m)
+
     -- of the gates that can be taken, it is the one of the smallest front, and of those the smallest line
     pub record ComesFirst (n : ℕ) : Type 0 where
       pub can : Takeable n
-      pub first : (m : ℕ) → Takeable m → (a.front n < a.front m) ⊎ ((a.front n ≡ a.front m) × n ≤ m)
+      pub first : (m : ℕ) → Takeable m → ComesBefore n m
 
     -- A gate rests with its front at its goal, or full: below its goal, where a change comes for which there is no room.
     pub data Rests (n : ℕ) : Type 0 where

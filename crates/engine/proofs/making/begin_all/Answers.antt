@@ -1,18 +1,18 @@
-use Rattle.std.proofs.Common.{◌≡◌, ℕ, ◌+◌, ◌-◌, ◌*◌, ◌<◌, ◌≤◌, get_or, refl, sym, ap, ◌∙◌, subst, inl, inr, arith}
+use Rattle.std.proofs.Common.{◌≡◌, ℕ, ◌+◌, ◌-◌, ◌<◌, ◌≤◌, get_or, refl, sym, ap, ◌∙◌, inl, inr, arith}
 use Rattle.std.proofs.lemmas.List.{get_or_past}
 use Rattle.semantics.specs.Circuits.{lines, topology}
 use Rattle.semantics.proofs.Wiring.{gate_range}
 use Rattle.semantics.specs.Machines.{IsLine}
 use Rattle.engine.specs.Makings.{base}
 use Rattle.engine.specs.Sessions.{given}
-use Rattle.engine.specs.Lines.{panel, extent}
+use Rattle.engine.specs.Lines.{panel}
 use Rattle.engine.specs.Recordings.{begun}
-use Rattle.engine.specs.Stores.{part, OnlyThere}
+use Rattle.engine.specs.Stores.{part}
 use Rattle.engine.proofs.Bases.{begun_none, begun_more, base_begun}
 use Rattle.engine.proofs.Beginnings.{right_at_first}
 use Rattle.engine.proofs.Books.{sure, of_line}
-use Rattle.engine.proofs.Moving.{keeps_on}
-use Rattle.engine.proofs.Parts.{part_length, ends_within, later}
+use Rattle.engine.proofs.Moving.{keeps_on, keeps_there}
+use Rattle.engine.proofs.Parts.{part_length}
 use Rattle.engine.proofs.making.begin_all.Goals as goal
 
 pub loop-place-init : goal.loop-place-init
@@ -33,13 +33,12 @@ loop-place-preserved g c =
     let place : k + 1 - 1 ≡ k = omega arith in
     let test = c.loop-place-test.true in
     let within : k + 1 ≤ lines p.circuit = omega (arith, c.lines-place-end.ensures) in
-    let here : OnlyThere (k * p.stride) p.stride old new = subst (λ j. OnlyThere (j * p.stride) p.stride old new) place there in
     let long = part_length p.stride (lines p.circuit) (k + 1) old (omega arith) within (omega (arith, c.requires, so_far.keeps.same_length)) in
     let still_long = part_length p.stride (lines p.circuit) (k + 1) new (omega arith) within (omega (arith, c.requires, so_far.keeps.same_length, there.same_length)) in
     let value = c.start_of.ensures ∙ ap (λ j. get_or c.args.starts.now j START) (sym place) in
     record {
-      keeps = keeps_on p p p c.args.store.now old new so_far.keeps (record { circuit = refl; stride = refl; same_length = there.same_length; beyond = later p.stride (k + 1) old new (omega arith) there (extent p) (ends_within p.stride (lines p.circuit) (k + 1) (omega arith) within) });
-      begun = begun_more START p.stride (λ n. get_or c.args.starts.now (n - 1) START) p.circuit old new k here (long ∙ sym still_long) (c.begin.ensures.begins ∙ ap (λ v. begun (part p.stride (k + 1) old) v START) value) so_far.begun;
+      keeps = keeps_on p p p c.args.store.now old new so_far.keeps (keeps_there p (k + 1) old new (omega arith) within there);
+      begun = begun_more START p.stride (λ n. get_or c.args.starts.now (n - 1) START) p.circuit old new k there (long ∙ sym still_long) (c.begin.ensures.begins ∙ ap (λ v. begun (part p.stride (k + 1) old) v START) value) so_far.begun;
     }
 
 pub returns-clause-begun : goal.returns-clause-begun

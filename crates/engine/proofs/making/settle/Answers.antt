@@ -1,15 +1,16 @@
-use Rattle.std.proofs.Common.{ℕ, ◌<◌, ap, sym, ◌∙◌, subst, map, Contains, inr, refl, rules, arith}
+use Rattle.std.proofs.Common.{ℕ, ◌<◌, ap, sym, ◌∙◌, subst, map, Contains, inr, rules, arith}
 use Rattle.std.proofs.lemmas.Bool.{both_ways}
 use Rattle.netlist.specs.GateRow.{MarkedGate}
 use Rattle.netlist.specs.Gates.{Gate}
 use Rattle.gates.specs.Functions.{gate_function}
 use Rattle.semantics.specs.Circuits.{lines, gate_of_line}
-use Rattle.engine.specs.Lines.{panel, extent}
+use Rattle.engine.specs.Lines.{panel}
 use Rattle.engine.specs.Makings.{base, SettledAt}
 use Rattle.engine.proofs.Bases.{base_here, base_else, still_begun}
 use Rattle.engine.proofs.Beginnings.{unmoved, marked}
 use Rattle.engine.proofs.Books.{sure, of_line}
-use Rattle.engine.proofs.Parts.{part_length, ends_within, later}
+use Rattle.engine.proofs.Moving.{keeps_there}
+use Rattle.engine.proofs.Parts.{part_length}
 use Rattle.engine.proofs.Stepping.{same_reads}
 use Rattle.semantics.proofs.Wiring.{sound}
 use Rattle.engine.proofs.making.settle.Goals as goal
@@ -36,13 +37,7 @@ returns-clause-keeps g c =
     let new = c.rebase.new.store in
     let n = c.args.line in
     let a_line = of_line p n (inr c.in-Some.ensures.told.0) in
-    let there = c.rebase.ensures.only_there in
-    record {
-      circuit = refl;
-      stride = refl;
-      same_length = there.same_length;
-      beyond = later p.stride n old new a_line.0 there (extent p) (ends_within p.stride (lines p.circuit) n a_line.0 a_line.1);
-    }
+    keeps_there p n old new a_line.0 a_line.1 c.rebase.ensures.only_there
 
 pub returns-clause-begun : goal.returns-clause-begun
 returns-clause-begun g c begins =

@@ -5,8 +5,8 @@ use Rattle.netlist.specs.Gates.{Circuit}
 use Rattle.semantics.specs.Circuits.{topology}
 use Rattle.semantics.specs.Machines.{IsLine}
 use Rattle.engine.specs.Makings.{base, AllBegun}
-use Rattle.engine.specs.Recordings.{begun}
-use Rattle.engine.specs.Stores.{part, OnlyThere}
+use Rattle.engine.specs.Recordings.{begun, OnlyThere}
+use Rattle.engine.specs.Stores.{part}
 use Rattle.engine.proofs.Books.{positive}
 use Rattle.engine.proofs.Parts.{part_else, one_part}
 

@@ -54,12 +54,17 @@ module _ {M : Type 0} (s : System M) (c : Circuit) (wired : Wired c) (start : �
             ∙ sym ((begins s c wired start).at_others line is none)))
             (cases_Bool (looped c line))
 
+    -- the line itself, or another that is right
+    pub at_or_else : (n : ℕ) → IsLine (topology c) n → (IsGate (topology c) n → (Looped c n → ⊥) → depth c n < suc k) → ((n ≡ line → ⊥) → b n ≡ initial s c start n) → b' n ≡ initial s c start n
+    at_or_else n is_line shallow known =
+        ⊎_elim
+        (λ same. subst (λ m. b' m ≡ initial s c start m) (sym same) (here (subst (IsLine (topology c)) same is_line) (λ gate none. let low = shallow (subst (IsGate (topology c)) (sym same) gate) (subst (λ m. Looped c m → ⊥) (sym same) none) in omega (arith, ap (depth c) same))))
+        (λ other. h.others n is_line other ∙ known other)
+        (cases_eq n line)
+
     -- what was right is right
     pub stays_right : RightTo s c start k b'
-    stays_right n is_line shallow =
-        ⊎_elim (λ same. subst (λ m. b' m ≡ initial s c start m) (sym same) (here (subst (IsLine (topology c)) same is_line) (λ gate none. let low = shallow (subst (IsGate (topology c)) (sym same) gate) (subst (λ m. Looped c m → ⊥) (sym same) none) in omega (arith, ap (depth c) same))))
-        (λ other. h.others n is_line other ∙ right n is_line shallow)
-        (cases_eq n line)
+    stays_right n is_line shallow = at_or_else n is_line (λ gate none. let low = shallow gate none in omega arith) (λ other. right n is_line shallow)
 
 -- Lines are right to a depth, and those up to a line one gate deeper.
 pub record PassedTo {M : Type 0} (s : System M) (c : Circuit) (start : ℕ → M) (k line : ℕ) (b : ℕ → M) : Type 0 where
@@ -73,11 +78,7 @@ module _ {M : Type 0} (s : System M) (c : Circuit) (start : ℕ → M) (k : ℕ)
   pub passed_one : Wired c → (place : ℕ) (b b' : ℕ → M) → PassedTo s c start k place b → SettledAt s c (place + 1) b b' → PassedTo s c start k (place + 1) b'
   passed_one wired place b b' passed h = record {
     right = stays_right s c wired start k (place + 1) b b' passed.right h;
-    deeper = λ n upto is_line shallow.
-        ⊎_elim (λ same. subst (λ m. b' m ≡ initial s c start m) (sym same) (here s c wired start k (place + 1) b b' passed.right h (subst (IsLine (topology c)) same is_line)
-        (λ gate none. let low = shallow (subst (IsGate (topology c)) (sym same) gate) (subst (λ m. Looped c m → ⊥) (sym same) none) in omega (arith, ap (depth c) same))))
-        (λ other. h.others n is_line other ∙ passed.deeper n (omega (arith, other)) is_line shallow)
-        (cases_eq n (place + 1));
+    deeper = λ n upto is_line shallow. at_or_else s c wired start k (place + 1) b b' passed.right h n is_line shallow (λ other. passed.deeper n (omega (arith, other)) is_line shallow);
   }
 
   pub passed_all : (b : ℕ → M) → PassedTo s c start k (lines c) b → RightTo s c start (suc k) b

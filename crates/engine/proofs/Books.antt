@@ -18,7 +18,8 @@ use Rattle.semantics.proofs.Proved.{logs_are_in_order, settled_times_are_bounded
 use Rattle.semantics.proofs.Wiring.{a_line, line_range, gate_range, input_range, gate_reads, sound}
 use Rattle.values.specs.Systems.{System}
 use Rattle.engine.specs.declared.lines.Lines.{Lines}
-use Rattle.engine.specs.Lines.{Panel, panel, settled_in, last_tick}
+use Rattle.engine.specs.Lines.{Panel, panel}
+use Rattle.engine.specs.Panels.{settled_in, last_tick}
 use Rattle.engine.specs.Standing.{machine_of, Shows, Stands}
 
 -- what holds of the lines of every session

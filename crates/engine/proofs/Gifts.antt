@@ -19,10 +19,11 @@ use Rattle.semantics.proofs.Putting.{put_here, put_there}
 use Rattle.semantics.proofs.Ruling.{rule_local}
 use Rattle.semantics.proofs.Wiring.{input_range, line_range}
 use Rattle.values.specs.Systems.{System}
-use Rattle.engine.specs.Lines.{Panel, moved, Holds}
-use Rattle.engine.specs.Recordings.{RecordedIn}
+use Rattle.engine.specs.Lines.{Panel, Holds}
+use Rattle.engine.specs.Panels.{moved}
+use Rattle.engine.specs.Recordings.{RecordedIn, OnlyThere}
 use Rattle.engine.specs.Standing.{Tells, machine_of, Stands}
-use Rattle.engine.specs.Stores.{part, seen, OnlyThere}
+use Rattle.engine.specs.Stores.{part, seen}
 use Rattle.engine.proofs.Books.{Sure, in_order, trim_reached}
 use Rattle.engine.proofs.Moving.{shows_moved}
 use Rattle.engine.proofs.Parts.{part_length}

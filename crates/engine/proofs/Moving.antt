@@ -11,9 +11,11 @@ use Rattle.semantics.specs.Moves.{put}
 use Rattle.semantics.proofs.Putting.{put_here, put_there}
 use Rattle.semantics.proofs.Wiring.{line_range}
 use Rattle.values.specs.Systems.{System}
-use Rattle.engine.specs.Lines.{Panel, moved, extent, Holds}
+use Rattle.engine.specs.Lines.{Panel, extent, Holds}
+use Rattle.engine.specs.Panels.{moved}
 use Rattle.engine.specs.Standing.{Tells, machine_of, Shows, Keeps}
-use Rattle.engine.specs.Stores.{part, seen, OnlyThere}
+use Rattle.engine.specs.Stores.{part, seen}
+use Rattle.engine.specs.Recordings.{OnlyThere}
 use Rattle.engine.proofs.Books.{positive}
 use Rattle.engine.proofs.Parts.{one_part, later, ends_within}
 

@@ -7,7 +7,8 @@ use Rattle.std.proofs.lemmas.Bool.{cases_eq, cases_order}
 use Rattle.std.proofs.lemmas.List.{take-take, drop_more, drop-take, drop-drop, take-append-drop, take-set-le, drop-set-lt, drop-set-add}
 use Rattle.std.proofs.Math.Seq.{take-set-lt}
 use borrow.Rule.Slice.PartMut.{put_mid}
-use Rattle.engine.specs.Stores.{OnlyThere, part}
+use Rattle.engine.specs.Stores.{part}
+use Rattle.engine.specs.Recordings.{OnlyThere}
 
 -- a line's records end where there are still those of the lines after it
 pub ends_within : (stride count n : ℕ) → 0 < n → n ≤ count → (n - 1) * stride + stride ≤ count * stride

@@ -18,12 +18,13 @@ use Rattle.semantics.proofs.Putting.{put_here, put_there}
 use Rattle.semantics.proofs.Wiring.{gate_range}
 use Rattle.values.specs.Systems.{System}
 use Rattle.engine.specs.declared.evaluation.Look.{Look}
-use Rattle.engine.specs.Lines.{Panel, moved, last_tick, Holds}
+use Rattle.engine.specs.Lines.{Panel, Holds}
+use Rattle.engine.specs.Panels.{moved, last_tick}
 use Rattle.engine.specs.Looks.{Evaluated, Stepped}
 use Rattle.engine.specs.Looks.Stepped.{onward, stopped}
-use Rattle.engine.specs.Recordings.{RecordedIn}
+use Rattle.engine.specs.Recordings.{RecordedIn, OnlyThere}
 use Rattle.engine.specs.Standing.{Tells, machine_of, Shows}
-use Rattle.engine.specs.Stores.{part, seen, OnlyThere}
+use Rattle.engine.specs.Stores.{part, seen}
 use Rattle.engine.proofs.Following.{one_delay_later, steady_later}
 use Rattle.engine.proofs.Moving.{Others, shows_moved}
 use Rattle.engine.proofs.Parts.{part_length, same_store}

@@ -12,7 +12,8 @@ use Rattle.semantics.proofs.Goals.{settled_gate}
 use Rattle.semantics.proofs.Putting.{put_here}
 use Rattle.values.specs.Systems.{System}
 use Rattle.engine.specs.Answers.{Taking}
-use Rattle.engine.specs.Lines.{Panel, moved, settled_in, last_tick}
+use Rattle.engine.specs.Lines.{Panel}
+use Rattle.engine.specs.Panels.{moved, settled_in, last_tick}
 use Rattle.engine.specs.Looks.{Followed}
 use Rattle.engine.specs.Standing.{machine_of, Shows, Stands}
 use Rattle.engine.proofs.Books.{Sure, settled_told, goal_in_range}

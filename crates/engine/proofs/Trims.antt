@@ -15,10 +15,11 @@ use Rattle.semantics.proofs.Wiring.{line_range}
 use Rattle.semantics.proofs.Putting.{put_here, put_there}
 use Rattle.values.specs.Systems.{System}
 use Rattle.engine.specs.Droppings.{Dropping}
-use Rattle.engine.specs.Lines.{Panel, moved}
-use Rattle.engine.specs.Recordings.{DroppedIn}
+use Rattle.engine.specs.Lines.{Panel}
+use Rattle.engine.specs.Panels.{moved}
+use Rattle.engine.specs.Recordings.{DroppedIn, OnlyThere}
 use Rattle.engine.specs.Standing.{Tells, machine_of, Stands, Keeps}
-use Rattle.engine.specs.Stores.{part, seen, OnlyThere}
+use Rattle.engine.specs.Stores.{part, seen}
 use Rattle.engine.proofs.Books.{positive, of_line}
 use Rattle.engine.proofs.Moving.{one_moved}
 use Rattle.std.proofs.lemmas.Bool.{cases_eq}

@@ -12,7 +12,8 @@ use Rattle.semantics.specs.Moves.{put, taken}
 use Rattle.semantics.proofs.Invariants.{settled_grows}
 use Rattle.semantics.proofs.Putting.{put_here, put_there, put_grows}
 use Rattle.values.specs.Systems.{System}
-use Rattle.engine.specs.Lines.{Panel, moved}
+use Rattle.engine.specs.Lines.{Panel}
+use Rattle.engine.specs.Panels.{moved}
 use Rattle.engine.specs.Looks.{Stepped, Followed}
 use Rattle.engine.specs.Looks.Stepped.{onward, stopped}
 use Rattle.engine.specs.Standing.{machine_of, Shows}

@@ -5,6 +5,7 @@ pub mod Lines
 pub mod Looks
 pub mod Makings
 pub mod Orders
+pub mod Panels
 pub mod Progresses
 pub mod Recordings
 pub mod Sessions

@@ -1,5 +1,5 @@
--- Recording in a part of a store; it serves the contracts of the engine's own functions.
-use Rattle.std.specs.Prelude.{ℕ, suc, ◌-◌, Option, List, ◌∷◌, length, replicate, take, drop}
+-- Recording in a part of a store, and nowhere else; it serves the contracts of the engine's own functions.
+use Rattle.std.specs.Prelude.{◌≡◌, ℕ, suc, ◌+◌, ◌-◌, Option, List, ◌∷◌, length, replicate, take, drop}
 use Rattle.std.specs.List.Sorted.{IsNonDecreasingBy}
 use Rattle.std.specs.Option.{is_some, unwrap_or}
 use Rattle.events.specs.declared.record.EventRecord.{EventRecord}
@@ -19,3 +19,9 @@ DroppedIn tick filler kept old result new =
 -- records begun anew with a value at tick 0, and filled
 abbrev pub begun : {E : Type 0} → List (EventRecord E) → E → E → List (EventRecord E)
 begun old value filler = record { tick = 0; value = value } ∷ replicate (length old - 1) (record { tick = 0; value = filler })
+
+-- only the records from a place on, and only so many, are others
+pub record OnlyThere {X : Type 0} (place count : ℕ) (old new : List X) : Type 0 where
+  pub same_length : length new ≡ length old
+  pub before : take place new ≡ take place old
+  pub after : drop (place + count) new ≡ drop (place + count) old

@@ -1,6 +1,7 @@
 // What lines show, and what gates make of it.
 ghost use Rattle.std.specs.Prelude.{ℕ, ◌<◌, ◌≤◌, length, Contains};
-ghost use Rattle.engine.specs.Lines.{panel, Holds, IsLineOf};
+ghost use Rattle.engine.specs.Lines.{panel, Holds};
+ghost use Rattle.engine.specs.Panels.{IsLineOf};
 ghost use Rattle.engine.specs.Looks.{Glanced, Folded, Evaluated};
 ghost use Rattle.engine.specs.Standing.{machine_of, Shows};
 ghost use Rattle.semantics.specs.Accounts.{Account, settled};

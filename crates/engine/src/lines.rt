@@ -30,7 +30,8 @@ impl Lines {
     ghost use Rattle.std.specs.Prelude.{ℕ, ◌-◌, ◌+◌, ◌*◌, ◌<◌, ◌≤◌, ◌≢◌, min, true, Contains, fold, map, Decides, MatchOption, IfSome};
     ghost use Rattle.netlist.specs.Closed.{circuit};
     ghost use Rattle.netlist.specs.Walks.{Looped};
-    ghost use Rattle.engine.specs.Lines.{panel, moved, settled_in, extent, last_tick, IsLineOf};
+    ghost use Rattle.engine.specs.Lines.{panel, extent};
+    ghost use Rattle.engine.specs.Panels.{moved, settled_in, last_tick, IsLineOf};
     ghost use Rattle.semantics.specs.Circuits.{lines, gate_of_line, topology};
     ghost use Rattle.semantics.specs.Machines.{IsInput, IsGate};
 

@@ -1,6 +1,7 @@
 // How lines begin.
 ghost use Rattle.std.specs.Prelude.{◌≡◌, ℕ, suc, Contains, length, map, false, slice_index_or};
-ghost use Rattle.engine.specs.Lines.{panel, Holds, IsLineOf};
+ghost use Rattle.engine.specs.Lines.{panel, Holds};
+ghost use Rattle.engine.specs.Panels.{IsLineOf};
 ghost use Rattle.engine.specs.Makings.{base, AllBegun, SettledAt, RightTo, AllRight};
 ghost use Rattle.engine.specs.Sessions.{given};
 ghost use Rattle.engine.specs.Standing.{Keeps};

@@ -1,9 +1,10 @@
 // The records of a session's lines.
 ghost use Rattle.std.specs.Prelude.{◌≡◌, ◌↔◌, ◌-◌, ◌*◌, ◌<◌, ◌∷◌, length, suc, take, drop, None, slice_set};
 ghost use Rattle.std.specs.Option.{unwrap_or};
-ghost use Rattle.engine.specs.Lines.{panel, Holds, IsLineOf};
-ghost use Rattle.engine.specs.Recordings.{RecordedIn, DroppedIn, begun};
-ghost use Rattle.engine.specs.Stores.{part, OnlyThere};
+ghost use Rattle.engine.specs.Lines.{panel, Holds};
+ghost use Rattle.engine.specs.Panels.{IsLineOf};
+ghost use Rattle.engine.specs.Recordings.{RecordedIn, DroppedIn, begun, OnlyThere};
+ghost use Rattle.engine.specs.Stores.{part};
 
 use crate::lines::Lines;
 use events::events::Events;

@@ -1,10 +1,11 @@
 // Taking gates.
 ghost use Rattle.std.specs.Prelude.{◌≡◌, ℕ, ◌+◌, ◌-◌, ◌*◌, ◌<◌, ◌≤◌, true, false, Contains, OnErr};
 ghost use Rattle.engine.specs.Answers.{numbered, Taking};
-ghost use Rattle.engine.specs.Lines.{panel, moved, last_tick, Holds};
+ghost use Rattle.engine.specs.Lines.{panel, Holds};
+ghost use Rattle.engine.specs.Panels.{moved, last_tick};
 ghost use Rattle.engine.specs.Looks.{Stepped, Followed};
 ghost use Rattle.engine.specs.Standing.{machine_of, Shows, Stands, Keeps};
-ghost use Rattle.engine.specs.Stores.{OnlyThere};
+ghost use Rattle.engine.specs.Recordings.{OnlyThere};
 ghost use Rattle.netlist.specs.Walks.{reads};
 ghost use Rattle.semantics.specs.Accounts.{Account, settled};
 ghost use Rattle.semantics.specs.Circuits.{gate_of_line, topology};

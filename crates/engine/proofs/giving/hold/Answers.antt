@@ -1,7 +1,8 @@
 use Rattle.std.proofs.Common.{◌≡◌, ◌≤◌, ap, sym, ◌∙◌, subst, arith}
 use Rattle.netlist.specs.declared.progress.Progress.{Progress}
 use Rattle.engine.specs.Answers.{Holding}
-use Rattle.engine.specs.Lines.{Panel, panel, moved}
+use Rattle.engine.specs.Lines.{Panel, panel}
+use Rattle.engine.specs.Panels.{moved}
 use Rattle.engine.specs.Standing.{Stands}
 use Rattle.engine.proofs.Books.{sure}
 use Rattle.engine.proofs.Gifts.{can_hold, held_stands}

@@ -3,7 +3,7 @@ use Rattle.netlist.specs.declared.progress.Progress.{Progress}
 use Rattle.semantics.specs.Moves.{taken}
 use Rattle.engine.specs.Lines.{Panel, panel}
 use Rattle.engine.specs.Looks.{Stepped}
-use Rattle.engine.specs.Stores.{OnlyThere}
+use Rattle.engine.specs.Recordings.{OnlyThere}
 use Rattle.engine.proofs.Parts.{there_on}
 use Rattle.engine.proofs.Ways.{moved_on, moved_same, way_begins, way_goes_on, way_stops, way_ends, limits_stay, way_front}
 use Rattle.engine.proofs.taking.follow.Goals as goal

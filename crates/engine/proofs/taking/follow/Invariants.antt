@@ -2,9 +2,10 @@ use Rattle.std.proofs.Common.{◌≡◌, ℕ, ◌+◌, ◌-◌, ◌*◌, ◌≤�
 use Rattle.netlist.specs.Walks.{reads}
 use Rattle.semantics.specs.Accounts.{Account, settled}
 use Rattle.semantics.specs.Circuits.{topology}
-use Rattle.engine.specs.Lines.{panel, moved, last_tick}
+use Rattle.engine.specs.Lines.{panel}
+use Rattle.engine.specs.Panels.{moved, last_tick}
 use Rattle.engine.specs.Standing.{Shows}
-use Rattle.engine.specs.Stores.{OnlyThere}
+use Rattle.engine.specs.Recordings.{OnlyThere}
 use Rattle.engine.proofs.Ways.{OnWay}
 use Rattle.engine.proofs.taking.follow.Given as goal
 

@@ -6,7 +6,8 @@ use Rattle.semantics.specs.Circuits.{gate_of_line}
 use Rattle.semantics.proofs.Closed.{wired}
 use Rattle.semantics.proofs.Putting.{put_here}
 use Rattle.semantics.proofs.Wiring.{gate_range}
-use Rattle.engine.specs.Lines.{Panel, panel, moved, last_tick}
+use Rattle.engine.specs.Lines.{Panel, panel}
+use Rattle.engine.specs.Panels.{moved, last_tick}
 use Rattle.engine.specs.Looks.{Stepped}
 use Rattle.engine.specs.Standing.{machine_of}
 use Rattle.engine.proofs.Stepping.{step_stops, step_goes_on, seen_of_line, read_of_line}

@@ -12,7 +12,8 @@ use Rattle.semantics.proofs.Putting.{put_here}
 use Rattle.semantics.proofs.Wiring.{gate_range, gate_delay, sound}
 use Rattle.engine.specs.declared.lines.Lines.{Lines}
 use Rattle.engine.specs.Answers.{Taking}
-use Rattle.engine.specs.Lines.{Panel, panel, last_tick}
+use Rattle.engine.specs.Lines.{Panel, panel}
+use Rattle.engine.specs.Panels.{last_tick}
 use Rattle.engine.specs.Looks.{Stepped, Followed}
 use Rattle.engine.specs.Standing.{Stands}
 use Rattle.engine.proofs.Books.{of_line, sure, in_order, goal_in_range, goal_told}

@@ -1,7 +1,8 @@
 use Rattle.std.proofs.Common.{map, take, min, get_or, ap, ◌∙◌, subst, arith, Contains}
 use Rattle.std.specs.Prelude.{fold}
 use Rattle.std.proofs.lemmas.List.Elements.{Contains-get_or}
-use Rattle.engine.specs.Lines.{panel, settled_in, last_tick}
+use Rattle.engine.specs.Lines.{panel}
+use Rattle.engine.specs.Panels.{settled_in, last_tick}
 use Rattle.engine.proofs.Least.{one_less}
 use Rattle.engine.proofs.lines.Lines.goal.Goals as goal
 

@@ -1,6 +1,7 @@
 use Rattle.std.proofs.Common.{◌≡◌, map, min, take}
 use Rattle.std.specs.Prelude.{fold}
-use Rattle.engine.specs.Lines.{panel, settled_in, last_tick}
+use Rattle.engine.specs.Lines.{panel}
+use Rattle.engine.specs.Panels.{settled_in, last_tick}
 use Rattle.engine.proofs.lines.Lines.goal.Given as goal
 
 abbrev pub invariant-loop-line : goal.invariant-loop-line

@@ -3,7 +3,6 @@ pub mod ClosedDecks
 pub mod Columns
 pub mod Cutting
 pub mod Exits
-pub mod FaultRows
 pub mod Failing
 pub mod Following
 pub mod Letters
@@ -16,3 +15,4 @@ pub mod Running
 pub mod Taking
 pub mod Texts
 pub mod Unique
+pub mod Writing

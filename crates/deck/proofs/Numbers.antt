@@ -1,12 +1,12 @@
 -- A number in columns: what a field means, and what the tests of a field say.
-use Rattle.std.proofs.Common.{◌≡◌, ℕ, ◌+◌, ◌-◌, ◌^◌, ◌<◌, ◌≤◌, List, ◌∷◌, length, drop, replicate, decimal, Result, MatchResult, Ok, Err, sym, ap, ◌∙◌, subst, le_trans, lt_of_lt_of_le, arith, lit<, lit≤}
+use Rattle.std.proofs.Common.{◌≡◌, ℕ, ◌+◌, suc, ◌-◌, ◌^◌, ◌<◌, ◌≤◌, min, List, ◌∷◌, length, drop, replicate, decimal, Result, MatchResult, Ok, Err, sym, ap, ◌∙◌, subst, le_trans, lt_of_lt_of_le, arith, lit<, lit≤}
 use native.Mathlib.Nat.{pow-le-pow_right}
 use Rattle.std.proofs.lemmas.Fmt.{decimal_is_IsNumeral}
 use Rattle.std.proofs.lemmas.Int.Digits.{digits_value-lt}
-use Rattle.std.proofs.lemmas.List.{length-append, length-take-le, length-drop}
+use Rattle.std.proofs.lemmas.List.{length-append, length-take, length-take-le, length-drop}
 use Rattle.columns.specs.Spelling.{spelled, Means}
 use Rattle.columns.specs.declared.FieldError.{FieldError}
-use Rattle.columns.proofs.Spelled.{means_one, spelled_injective}
+use Rattle.columns.proofs.Spelled.{means_one, length-spelled, spelled_injective}
 use Rattle.deck.specs.Tests.{columns, Shows}
 
 -- a number whose spelling fits so many columns is below that power of ten
@@ -39,6 +39,19 @@ module _ (r : List ℕ) (column width : ℕ) (there : length (columns r column w
 pub length-columns : (letter : ℕ) (fields : List ℕ) (column width : ℕ) → 2 ≤ column → column + width ≤ length fields + 2 → length (columns (letter ∷ fields) column width) ≡ width
 length-columns letter fields column width past within =
     length-take-le width (drop (column - 1) (letter ∷ fields)) (rw (length-drop (column - 1) (letter ∷ fields)) (omega arith))
+
+-- of a record that does not reach so far there are fewer columns
+pub few_columns : (letter : ℕ) (fields : List ℕ) (column width : ℕ) → 2 ≤ column → 1 ≤ width → length fields + 2 < column + width → length (columns (letter ∷ fields) column width) < width
+few_columns letter fields column width past some short =
+    let rest = drop (column - 1) (letter ∷ fields) in
+    let cut : length rest ≡ suc (length fields) - (column - 1) = length-drop (column - 1) (letter ∷ fields) in
+    let few : length (columns (letter ∷ fields) column width) ≡ min width (length rest) = length-take width rest in
+    omega arith
+
+-- so they show no number
+pub beyond_record : (r : List ℕ) (column width n : ℕ) → 1 ≤ width → width ≤ 19 → length (columns r column width) < width → Shows r column width n → ⊥
+beyond_record r column width n some narrow few shown =
+    let wide = ap length shown.spelling ∙ length-spelled width n shown.fits some (narrow_small width n narrow shown.fits) in omega arith
 
 -- only one number is shown
 pub shows_one : (r : List ℕ) (column width m n : ℕ) → width ≤ 19 → Shows r column width m → Shows r column width n → m ≡ n

@@ -3,6 +3,8 @@ use Rattle.std.specs.Prelude.{◌≡◌, ℕ, zero, suc, ◌+◌, ◌-◌, ◌*�
 use Rattle.columns.specs.Spelling.{spelled}
 use Rattle.netlist.specs.declared.kind.Kind.{Kind}
 use Rattle.netlist.specs.Gates.{fits}
+use Rattle.values.specs.declared.ternary.Ternary.{Ternary}
+use Rattle.values.specs.Knowledge as Knowledge
 use Rattle.deck.specs.Faults.{Told}
 use Rattle.deck.specs.Progress.{Expected, header_next, input_next, gate_next, output_next, end_next, nothing_next}
 use Rattle.deck.specs.Rows.{kind_text}
@@ -25,6 +27,7 @@ pub data Test : Type 0 where
   range : (column width least most : ℕ) → Test
   kind_known : Test
   kind_takes : (count : ℕ) → Test
+  value_known : Test
 
 abbrev pub has : ℕ → List ℕ → Bool
 has n [] = false
@@ -39,6 +42,7 @@ Passes r (turn column width line) = Shows r column width line
 Passes r (range column width least most) = (n : ℕ) × Shows r column width n × (least ≤ n) × (n ≤ most)
 Passes r kind_known = (k : Kind) × (columns r 6 4 ≡ kind_text k)
 Passes r (kind_takes count) = (k : Kind) × (columns r 6 4 ≡ kind_text k) × (fits k count ≡ true)
+Passes r value_known = (v : Ternary) × (columns r 16 2 ≡ 32 ∷ Knowledge.letter v)
 
 -- number, layer and column of the fault; a field's fault has the field's first column
 abbrev pub fault_of : ℕ → Test → Told
@@ -50,6 +54,7 @@ fault_of at (turn column width line) = record { number = 6; layer = 82; at = at;
 fault_of at (range column width least most) = record { number = 5; layer = 82; at = at; column = column }
 fault_of at kind_known = record { number = 7; layer = 82; at = at; column = 6 }
 fault_of at (kind_takes count) = record { number = 7; layer = 82; at = at; column = 6 }
+fault_of at value_known = record { number = 7; layer = 82; at = at; column = 16 }
 
 -- a number within limits
 abbrev pub number_tests : ℕ → ℕ → ℕ → ℕ → List Test

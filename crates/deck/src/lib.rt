@@ -6,4 +6,4 @@ pub mod entry;
 pub mod fault;
 pub mod phase;
 pub mod reader;
-mod record;
+pub mod record;

@@ -1,10 +1,11 @@
-// A record of a deck taken apart: its letter, and the fields that stand in its columns.
-ghost use Rattle.std.specs.Prelude.{◌≡◌, ◌+◌, ◌*◌, ◌≤◌, true, false, length, MatchResult};
+// A record taken apart: its letter, and the fields that stand in its columns.
+ghost use Rattle.std.specs.Prelude.{◌≡◌, ◌+◌, ◌*◌, ◌<◌, ◌≤◌, true, false, length, take, MatchOption, MatchResult, slice_index};
 ghost use Rattle.std.specs.Int.{is_in_range};
 ghost use Rattle.netlist.specs.Drafts.{within_limits};
 ghost use Rattle.netlist.specs.GateRow.{drawn};
 ghost use Rattle.netlist.specs.Gates.{legal};
 ghost use Rattle.netlist.specs.Rows.{gate_of};
+ghost use Rattle.deck.specs.Outcomes.{Unended};
 ghost use Rattle.deck.specs.Progress.{header_next, input_next, gate_next, output_next, end_next};
 ghost use Rattle.deck.specs.Records.{whole, Spells, Failed, Refuted, ReadsShown, fields_tests};
 ghost use Rattle.deck.specs.Rows.{header, input, gate, output, end, kind_text};
@@ -18,13 +19,21 @@ use netlist::refusal::Refusal;
 use netlist::row::GateRow;
 use netlist::size::Size;
 
-// So many columns of a record, from the first on. Columns count from 1, which is the letter's; a number of at most 19
-// columns is one of 64 bits.
+// How many bytes stand before the first byte 10.
+pub fn record_length(bytes: &[u8]) -> Option<usize>
+    ensures { MatchOption result (Unended bytes.now) (λ n. (n < length bytes.now) × (slice_index bytes.now n ≡ 10) × Unended (take n bytes.now)) }
+{
+    bytes.iter().position(|byte| *byte == b'\n')
+}
+
+// So many columns of a record, one or more, from the first on. Columns count from 1, which is the letter's; a number of at
+// most 19 columns is one of 64 bits.
 #[derive(Clone, Copy)]
-struct Span {
-    first: usize,
-    width: usize,
+pub struct Span {
+    pub first: usize,
+    pub width: usize,
     ghost past_letter: { 2 ≤ first },
+    ghost some: { 1 ≤ width },
     ghost narrow: { width ≤ 19 },
 }
 
@@ -51,14 +60,14 @@ const DELAY: Span = Span {
 
 // The record's number, counted from 1, its letter, and the bytes from column 2 on.
 #[derive(Clone, Copy)]
-pub(crate) struct Record<'a> {
-    pub(crate) number: usize,
-    pub(crate) letter: u8,
-    pub(crate) fields: &'a [u8],
+pub struct Record<'a> {
+    pub number: usize,
+    pub letter: u8,
+    pub fields: &'a [u8],
 }
 
 impl<'a> Record<'a> {
-    pub(crate) fn fault(&self, refusal: Refusal, layer: Layer, column: usize) -> Fault
+    pub fn fault(&self, refusal: Refusal, layer: Layer, column: usize) -> Fault
         ensures { result ≡ record { refusal = refusal; layer = layer; «record» = self.now.number; column = column } }
     {
         Fault {
@@ -69,34 +78,30 @@ impl<'a> Record<'a> {
         }
     }
 
-    // The bytes in the columns. That they lie within the record ties the two, so it is asked here.
-    fn columns(&self, span: Span) -> &[u8]
-        requires { span.first + span.width ≤ length self.now.fields.now + 2 }
-        ensures { result.now ≡ columns (whole self.now) span.first span.width }
+    // The bytes in the columns, if the record has so many.
+    pub fn columns(&self, span: Span) -> Option<&[u8]>
+        ensures { MatchOption result (length self.now.fields.now + 2 < span.first + span.width) (λ bytes. (bytes.now ≡ columns (whole self.now) span.first span.width) × (length bytes.now ≡ span.width)) }
     {
-        let start = span.first - 2;
-        &self.fields[start..start + span.width]
+        self.fields.get(span.first - 2..)?.get(..span.width)
     }
 
     // The number in the columns.
     fn figure(&self, span: Span) -> Result<u64, Fault>
-        requires { span.first + span.width ≤ length self.now.fields.now + 2 }
         ensures { MatchResult result (λ n. Shows (whole self.now) span.first span.width n) (λ f. Refuted (whole self.now) self.now.number (figure span.first span.width) f) }
     {
-        columns::read(self.columns(span)).or(Err(self.fault(
-            Refusal::Figure,
-            Layer::Field,
-            span.first,
-        )))
+        let fault = self.fault(Refusal::Figure, Layer::Field, span.first);
+        let Some(bytes) = self.columns(span) else {
+            return Err(fault);
+        };
+        columns::read(bytes).or(Err(fault))
     }
 
-    // The number in the columns, which is at least 1 and at most so much.
-    fn number(&self, span: Span, most: u64) -> Result<u64, Fault>
-        requires { span.first + span.width ≤ length self.now.fields.now + 2 }
-        ensures { MatchResult result (λ n. Shows (whole self.now) span.first span.width n × (1 ≤ n) × (n ≤ most)) (λ f. Failed (whole self.now) self.now.number (number_tests span.first span.width 1 most) f) }
+    // The number in the columns, which is at least and at most so much.
+    pub fn number(&self, span: Span, least: u64, most: u64) -> Result<u64, Fault>
+        ensures { MatchResult result (λ n. Shows (whole self.now) span.first span.width n × (least ≤ n) × (n ≤ most)) (λ f. Failed (whole self.now) self.now.number (number_tests span.first span.width least most) f) }
     {
         let number = self.figure(span)?;
-        if (1..=most).contains(&number) {
+        if (least..=most).contains(&number) {
             Ok(number)
         } else {
             Err(self.fault(Refusal::Range, Layer::Record, span.first))
@@ -105,7 +110,6 @@ impl<'a> Record<'a> {
 
     // That the record's line is the one whose turn it is.
     fn turn(&self, line: usize) -> Result<(), Fault>
-        requires { 4 ≤ length self.now.fields.now }
         ensures { MatchResult result (λ _. Shows (whole self.now) 2 4 line) (λ f. Failed (whole self.now) self.now.number (line_tests 2 4 line) f) }
     {
         let number = self.figure(LINE)?;
@@ -118,10 +122,13 @@ impl<'a> Record<'a> {
     // The kind of a gate. The four columns are matched whole, blanks too: a name that is cut out and then looked up
     // would take two steps.
     fn kind(&self) -> Result<Kind, Fault>
-        requires { 8 ≤ length self.now.fields.now }
         ensures { MatchResult result (λ k. columns (whole self.now) 6 4 ≡ kind_text k) (λ f. Refuted (whole self.now) self.now.number kind_known f) }
     {
-        match self.columns(KIND) {
+        let fault = self.fault(Refusal::Kind, Layer::Record, KIND.first);
+        let Some(name) = self.columns(KIND) else {
+            return Err(fault);
+        };
+        match name {
             b"BUF " => Ok(Kind::Buf),
             b"NOT " => Ok(Kind::Not),
             b"AND " => Ok(Kind::And),
@@ -130,14 +137,13 @@ impl<'a> Record<'a> {
             b"NAND" => Ok(Kind::Nand),
             b"NOR " => Ok(Kind::Nor),
             b"XNOR" => Ok(Kind::Xnor),
-            _ => Err(self.fault(Refusal::Kind, Layer::Record, KIND.first)),
+            _ => Err(fault),
         }
     }
 
     // The lines that a gate reads, four columns each from column 15 on.
     fn reads(&self, count: usize, lines: usize) -> Result<ArrayVec<u32, 4>, Fault>
         requires few { count ≤ 4 }
-        requires within { 15 + 4 * count ≤ length self.now.fields.now + 2 }
         ensures { MatchResult result (λ ns. (length ns.items ≡ count) × ReadsShown (whole self.now) lines count ns.items) (λ f. Failed (whole self.now) self.now.number (reads_tests lines count) f) }
     {
         let mut reads = ArrayVec::new();
@@ -146,14 +152,14 @@ impl<'a> Record<'a> {
                 first: 15 + 4 * place,
                 width: 4,
             };
-            let line = self.number(span, lines as u64)?;
+            let line = self.number(span, 1, lines as u64)?;
             reads.push(line as u32);
         }
         Ok(reads)
     }
 
     // That the record has one of the lengths allowed.
-    fn length(&self, allowed: &[usize]) -> Result<(), Fault>
+    pub fn length(&self, allowed: &[usize]) -> Result<(), Fault>
         ensures { MatchResult result (λ _. has (length (whole self.now)) allowed.now ≡ true) (λ f. Refuted (whole self.now) self.now.number (long allowed.now) f) }
     {
         if allowed.contains(&(self.fields.len() + 1)) {
@@ -168,9 +174,9 @@ impl<'a> Record<'a> {
         ensures { MatchResult result (λ h. Spells self.now (header h.inputs h.gates h.outputs) × (within_limits h.inputs h.gates h.outputs ≡ true)) (λ f. Failed (whole self.now) self.now.number (fields_tests header_next (length (whole self.now))) f) }
     {
         self.length(&[13])?;
-        let inputs = self.number(INPUTS, Draft::MOST_INPUTS as u64)?;
-        let gates = self.number(GATES, Draft::MOST_GATES as u64)?;
-        let outputs = self.number(OUTPUTS, Draft::MOST_OUTPUTS as u64)?;
+        let inputs = self.number(INPUTS, 1, Draft::MOST_INPUTS as u64)?;
+        let gates = self.number(GATES, 1, Draft::MOST_GATES as u64)?;
+        let outputs = self.number(OUTPUTS, 1, Draft::MOST_OUTPUTS as u64)?;
         Ok(Size {
             inputs: inputs as usize,
             gates: gates as usize,
@@ -194,7 +200,7 @@ impl<'a> Record<'a> {
         let count = (self.fields.len() - 13) / 4;
         self.turn(line)?;
         let kind = self.kind()?;
-        let delay = self.number(DELAY, Draft::MOST_DELAY as u64)?;
+        let delay = self.number(DELAY, 1, Draft::MOST_DELAY as u64)?;
         let reads = self.reads(count, lines)?;
         match GateRow::new(kind, delay as u32, &reads) {
             Ok(row) => Ok(row),
@@ -207,7 +213,7 @@ impl<'a> Record<'a> {
         ensures { MatchResult result (λ n. Spells self.now (output n) × (is_in_range 1 lines n ≡ true)) (λ f. Failed (whole self.now) self.now.number (fields_tests (output_next lines) (length (whole self.now))) f) }
     {
         self.length(&[5])?;
-        let line = self.number(LINE, lines as u64)?;
+        let line = self.number(LINE, 1, lines as u64)?;
         Ok(line as u32)
     }
 

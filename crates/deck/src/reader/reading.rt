@@ -1,8 +1,8 @@
 // Reading a deck record by record, and as a whole.
-ghost use Rattle.std.specs.Prelude.{◌≡◌, suc, ◌<◌, ◌++◌, length, take, MatchOption, MatchResult, slice_index};
+ghost use Rattle.std.specs.Prelude.{◌≡◌, suc, length, MatchResult};
 ghost use Rattle.netlist.specs.Drafts.{Sheet, sheet};
 ghost use Rattle.deck.specs.Faults.{told};
-ghost use Rattle.deck.specs.Outcomes.{Unended, Fails, FirstFault, Answer, answer_of, Outcome};
+ghost use Rattle.deck.specs.Outcomes.{Fails, FirstFault, Answer, answer_of, Outcome};
 ghost use Rattle.deck.specs.Progress.{blank, rows};
 ghost use Rattle.deck.specs.Readers.{progress_of, finished, TookFrom, ReadAll, Unfinished};
 
@@ -10,16 +10,10 @@ use super::DeckReader;
 use crate::entry::Taken;
 use crate::fault::Fault;
 use crate::phase::Phase;
+use crate::record::record_length;
 use netlist::draft::Draft;
 use netlist::refusal::Refusal;
 use netlist::size::Size;
-
-// How many bytes stand before the first byte 10.
-fn record_length(bytes: &[u8]) -> Option<usize>
-    ensures { MatchOption result (Unended bytes.now) (λ n. (n < length bytes.now) × (slice_index bytes.now n ≡ 10) × Unended (take n bytes.now)) }
-{
-    bytes.iter().position(|byte| *byte == b'\n')
-}
 
 impl DeckReader {
     // Takes the record that the bytes begin with. A fault alters nothing.

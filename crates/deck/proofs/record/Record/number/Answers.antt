@@ -18,9 +18,9 @@ returns-else-contains c =
     let span = c.args.span in
     let n = c.in_ok-number.number in
     let shown = c.in_ok-number.ensures in
-    let out : 1 ≤ n → n ≤ c.args.most → ⊥ = λ low high. grind (arith, common_steps) in
+    let out : c.args.least ≤ n → n ≤ c.args.most → ⊥ = λ low high. grind (arith, common_steps) in
     failed_after _ _ (figure span.first span.width) _ _ (n, shown)
-    (failed_one _ _ (range span.first span.width 1 c.args.most) _ _ (record {
+    (failed_one _ _ (range span.first span.width c.args.least c.args.most) _ _ (record {
       fails = λ p. let same = shows_one (whole c.args.self.now) span.first span.width n p.0 span.narrow shown p.1 in out (omega arith) (omega arith);
       is = ap told c.fault.ensures;
     }))

@@ -1,7 +1,7 @@
 use Rattle.std.proofs.Common.{◌≡◌, rules, tests}
 use Rattle.std.proofs.lemmas.Iterator.{IsFirst-from_position, YieldsList-from_slice}
 use Rattle.deck.proofs.Bytes.{first_ending}
-use Rattle.deck.proofs.reader.reading.record_length.Goals as goal
+use Rattle.deck.proofs.record.record_length.Goals as goal
 
 pub returns : goal.returns
 returns c =

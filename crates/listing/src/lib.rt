@@ -1,0 +1,4 @@
+// Listings: a deck and its stimulus are simulated, and the changes of the outputs are listed.
+#![tactic(auto)]
+
+pub mod rows;

@@ -29,3 +29,10 @@ impl fmt::Display for Entry {
         }
     }
 }
+
+// A record that was taken: its number, and what it says.
+#[derive(Clone, Copy, PartialEq, Eq, Debug)]
+pub struct Taken {
+    pub record: usize,
+    pub entry: Entry,
+}

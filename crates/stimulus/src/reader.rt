@@ -1,7 +1,7 @@
 // The reader of a stimulus, which takes one record after the other.
-ghost use Rattle.std.specs.Prelude.{◌≡◌, ◌+◌, ◌≤◌, length};
+ghost use Rattle.std.specs.Prelude.{◌+◌, ◌≤◌, length};
 
-use crate::entry::Entry;
+use crate::entry::{Entry, Taken};
 use crate::record::{end, feed, hold};
 use deck::fault::{Fault, Layer};
 use deck::record::{Record, record_length};
@@ -14,50 +14,60 @@ pub enum Phase {
     Done,
 }
 
-// The bytes that are left, how many records were taken before them, how many lines there are, and the phase. The records
-// can be counted to the last byte.
+// The bytes that are left, the number of the record that they begin with, how many lines there are, and the phase. The
+// records can be counted to the last byte.
 #[derive(Clone, Copy)]
 pub struct StimulusReader<'a> {
     rest: &'a [u8],
-    records: usize,
+    record: usize,
     lines: usize,
     phase: Phase,
-    ghost countable: { records + length rest.now ≤ 18446744073709551615 },
+    ghost countable: { «record» + length rest.now ≤ 18446744073709551615 },
 }
 
 impl<'a> StimulusReader<'a> {
-    // A reader of a stimulus that follows so many records, for a netlist of so many lines.
-    pub fn new(bytes: &'a [u8], records: usize, lines: usize) -> StimulusReader<'a> {
+    ghost use Rattle.std.specs.Prelude.{◌≡◌, ◌-◌, min, MatchResult};
+    ghost use Rattle.deck.specs.Records.{Failed};
+    ghost use Rattle.stimulus.specs.Readers.{place, Answers};
+    ghost use Rattle.stimulus.specs.Rows.{text, Legal};
+    ghost use Rattle.stimulus.specs.Tests.{tests};
+    ghost use Rattle.stimulus.specs.declared.reader.Phase.TheVariants.{Given};
+
+    // A reader of a stimulus whose records count on from this number, for a netlist of so many lines. Where they could not be
+    // counted to the last byte, they count from a smaller one.
+    pub fn new(bytes: &'a [u8], record: usize, lines: usize) -> StimulusReader<'a>
+        ensures begins { place result ≡ record { rest = bytes.now; at = min «record» (18446744073709551615 - length bytes.now); lines = lines; phase = Given } }
+    {
         StimulusReader {
             rest: bytes,
-            records: records.min(usize::MAX - bytes.len()),
+            record: record.min(usize::MAX - bytes.len()),
             lines,
             phase: Phase::Given,
         }
     }
 
-    // How many records were taken, those before the stimulus too.
-    pub fn records(&self) -> usize {
-        self.records
-    }
-
     // A fault of the next record as a whole, which is told at its first column.
-    fn fault(&self, refusal: Refusal) -> Fault {
+    fn fault(&self, refusal: Refusal) -> Fault
+        ensures { result ≡ record { refusal = refusal; layer = Layer.Record; «record» = self.now.«record»; column = 1 } }
+    {
         Fault {
             refusal,
             layer: Layer::Record,
-            record: self.records.saturating_add(1),
+            record: self.record,
             column: 1,
         }
     }
 
-    // The entry of the next record, whose letter and the reader's own phase together decide what it may be.
-    fn entry(&self, bytes: &[u8]) -> Result<Entry, Fault> {
+    // What the next record says. Its letter and the reader's own phase together decide what it may be; they are matched here,
+    // in one place.
+    fn entry(&self, bytes: &[u8]) -> Result<Entry, Fault>
+        ensures { MatchResult result (λ e. (self.now.phase ≡ Given) × (bytes.now ≡ text e) × Legal self.now.lines e) (λ f. Failed bytes.now self.now.«record» (tests self.now.phase self.now.lines bytes.now) f) }
+    {
         let [letter, fields @ ..] = bytes else {
             return Err(self.fault(Refusal::Letter));
         };
         let source = Record {
-            number: self.records.saturating_add(1),
+            number: self.record,
             letter: *letter,
             fields,
         };
@@ -65,12 +75,14 @@ impl<'a> StimulusReader<'a> {
             (Phase::Given, b'F') => feed(&source, self.lines),
             (Phase::Given, b'H') => hold(&source, self.lines),
             (Phase::Given, b'E') => end(&source),
-            _ => Err(source.fault(Refusal::Letter, Layer::Record, 1)),
+            _ => Err(self.fault(Refusal::Letter)),
         }
     }
 
-    // Takes the next record; none is left once the stimulus has ended and its bytes with it. A fault alters nothing.
-    pub fn next(&mut self) -> Result<Option<Entry>, Fault> {
+    // Takes the next record; there is none once the end was taken and no byte follows. A fault alters nothing.
+    pub fn next(&mut self) -> Result<Option<Taken>, Fault>
+        ensures answers { Answers self.old self.new result }
+    {
         if self.phase == Phase::Done && self.rest.is_empty() {
             return Ok(None);
         }
@@ -78,11 +90,12 @@ impl<'a> StimulusReader<'a> {
             return Err(self.fault(Refusal::Cut));
         };
         let entry = self.entry(&self.rest[..length])?;
+        let record = self.record;
         if entry == Entry::End {
             self.phase = Phase::Done;
         }
         self.rest = &self.rest[length + 1..];
-        self.records += 1;
-        Ok(Some(entry))
+        self.record += 1;
+        Ok(Some(Taken { record, entry }))
     }
 }

@@ -1,0 +1,2 @@
+pub mod Letters
+pub mod Places

@@ -1,0 +1,55 @@
+-- The listing of a deck with its stimulus.
+use Rattle.std.specs.Prelude.{◌≡◌, ℕ, ◌+◌, ◌-◌, ◌/◌, ◌^◌, ◌<◌, List, [], ◌∷◌, ◌++◌, length, drop}
+use Rattle.std.specs.List.{flat_map}
+use Rattle.deck.specs.Closing.{Sound, Refused}
+use Rattle.deck.specs.Faults.{Told, fault_row}
+use Rattle.netlist.specs.Gates.{Circuit}
+use Rattle.semantics.specs.Accounts.{Account, settled, value, KeptChanges}
+use Rattle.semantics.specs.Circuits.{lines}
+use Rattle.semantics.specs.CircuitMachine.{machine}
+use Rattle.semantics.specs.Comparisons.{Alike}
+use Rattle.semantics.specs.Logs.{Log}
+use Rattle.semantics.specs.Machines.{Machine}
+use Rattle.semantics.specs.Moves.{made, Rest}
+use Rattle.values.specs.Knowledge.{three_valued}
+use Rattle.values.specs.declared.ternary.Ternary.{Ternary}
+use Rattle.values.specs.declared.ternary.Ternary.TheVariants.{X}
+use Rattle.listing.specs.Given.{Whole, FirstFault}
+use Rattle.listing.specs.Rows.{line_row, change_row}
+
+-- a circuit in three values, with 4,096 records for all lines, of which each line's first holds its base
+abbrev pub listed : Circuit → Machine Ternary
+listed c = machine three_valued c (4096 / lines c - 1)
+
+-- every input begins with X
+abbrev pub unknown : Account Ternary
+unknown = made (λ n. X)
+
+module _ (s : Machine Ternary) (a : Account Ternary) where
+  -- The rows of a line: how far it is settled and how many of its changes are kept, and then each of these. No number is too
+  -- long for its columns.
+  pub record LineRows (n : ℕ) (rows : List ℕ) : Type 0 where
+    pub ticks : List ℕ
+    pub kept : KeptChanges s a n ticks
+    pub fit : (n < 10 ^ 4) × (settled s.topology a n < 10 ^ 10) × (length ticks < 10 ^ 4)
+    pub are : rows ≡ line_row n (settled s.topology a n) (length ticks) ++ flat_map (λ t. change_row t (value s a n t)) ticks
+
+  -- the rows of lines, in the order given
+  pub data RowsOf : List ℕ → List ℕ → Type 0 where
+    none : RowsOf [] []
+    next : {n : ℕ} {ns rows text : List ℕ} → LineRows n rows → RowsOf ns text → RowsOf (n ∷ ns) (rows ++ text)
+
+-- The listing of a circuit with a stimulus whose records count on from a number: the rows of its outputs at rest, wherever all
+-- that the stimulus gives was given; or its first fault.
+pub data Simulated (c : Circuit) (first : ℕ) (stimulus text : List ℕ) : Type 0 where
+  outputs : {given rest : Account Ternary} → Whole (listed c) unknown stimulus given → Log (listed c) rest → Alike (listed c) given rest → Rest (listed c) rest → RowsOf (listed c) rest c.outputs text → Simulated c first stimulus text
+  faulty : {f : Told} → FirstFault (listed c) unknown (lines c) first stimulus f → text ≡ fault_row f → Simulated c first stimulus text
+
+-- how many records a deck has: one for each line and each output, its header and its end
+abbrev pub records : Circuit → ℕ
+records c = lines c + length c.outputs + 2
+
+-- The listing of bytes: the deck's fault, or the listing of its circuit with the stimulus that follows.
+pub data Listing (bytes text : List ℕ) : Type 0 where
+  refused : {f : Told} → Refused bytes f → text ≡ fault_row f → Listing bytes text
+  simulated : {used : ℕ} {c : Circuit} → Sound bytes used c → Simulated c (records c + 1) (drop used bytes) text → Listing bytes text

@@ -1,0 +1,123 @@
+// The lister: the listing of a deck with its stimulus.
+ghost use Rattle.std.specs.Prelude.{◌≡◌, ℕ, ◌+◌, ◌^◌, ◌<◌, ◌≤◌, Ok, length, take, OnOk, OnErr, MatchResult, ◌≢◌, List};
+ghost use Rattle.std.specs.Io.KnownBytes.{Appends};
+ghost use Rattle.deck.specs.Faults.{told};
+ghost use Rattle.engine.specs.Answers.{numbered};
+ghost use Rattle.engine.specs.Sessions.{KeepsItsOwn, lines_of};
+ghost use Rattle.listing.specs.Given.{Gives, Whole, FirstFault};
+ghost use Rattle.listing.specs.Listers.{machine_in, StandsFor};
+ghost use Rattle.listing.specs.Listings.{LineRows, RowsOf, Simulated, Listing, records};
+ghost use Rattle.netlist.specs.Closed.{circuit};
+ghost use Rattle.semantics.specs.Accounts.{Account};
+ghost use Rattle.semantics.specs.Circuits as Circuits;
+ghost use Rattle.semantics.specs.Machines.{IsLine};
+ghost use Rattle.stimulus.specs.declared.entry.Entry.TheVariants.{End};
+ghost use Rattle.values.specs.declared.ternary.Ternary.{Ternary};
+
+use crate::rows::{change_row, line_row};
+use deck::closing::read_netlist;
+use deck::fault::{Fault, Layer};
+use engine::session::{LineState, Session};
+use events::record::EventRecord;
+use netlist::closed::Netlist;
+use netlist::draft::Draft;
+use netlist::refusal::Refusal;
+use std::io;
+use std::io::Write;
+use stimulus::entry::Entry;
+use stimulus::reader::StimulusReader;
+use values::ternary::Ternary;
+
+// How many bytes are read at most.
+pub const MOST_BYTES: usize = 32768;
+
+// How many records the store has.
+pub const RECORDS: usize = 4096;
+
+// What a record of the store is before a session writes it.
+const BLANK: EventRecord<Ternary> = EventRecord {
+    tick: 0,
+    value: Ternary::X,
+};
+
+// Gives a session what a record says; an end gives nothing.
+fn give(session: &mut Session<Ternary>, entry: Entry) -> Result<(), Refusal>
+    ensures keeps { KeepsItsOwn session.old session.new }
+    ensures refused { OnErr result (session.new ≡ session.old) }
+    ensures ends { entry ≡ End → (result ≡ Ok tt) × (session.new ≡ session.old) }
+    ensures answers { (entry ≢ End) → (a : Account Ternary) → StandsFor session.old a → (b : Account Ternary) × Gives (machine_in session.old) a entry (numbered result) b × StandsFor session.new b }
+{
+    match entry {
+        Entry::Feed { line, tick, value } => session.feed(line, tick, value),
+        Entry::Hold { line, tick } => session.hold(line, tick),
+        Entry::End => Ok(()),
+    }
+}
+
+// Gives a session all of a stimulus, up to the first fault.
+fn give_all(session: &mut Session<Ternary>, stimulus: &[u8], first: usize) -> Result<(), Fault>
+    requires { first + length stimulus.now ≤ 18446744073709551615 }
+    ensures keeps { KeepsItsOwn session.old session.new }
+    ensures answers { (a : Account Ternary) → StandsFor session.old a → (b : Account Ternary) × StandsFor session.new b × MatchResult result (λ _. Whole (machine_in session.old) a stimulus.now b) (λ f. FirstFault (machine_in session.old) a (Circuits.lines (lines_of session.old).circuit) first stimulus.now (told f)) }
+{
+    let mut reader = StimulusReader::new(stimulus, first, session.netlist().lines());
+    while let Some(taken) = reader.next()? {
+        if let Err(refusal) = give(session, taken.entry) {
+            return Err(Fault {
+                refusal,
+                layer: Layer::Session,
+                record: taken.record,
+                column: 1,
+            });
+        }
+    }
+    Ok(())
+}
+
+// Lists the changes of a line, from one on.
+fn list_line<W: Write>(session: &Session<Ternary>, line: u32, out: &mut W) -> io::Result<()> {
+    let Ok(LineState { settled, kept }) = session.state(line) else {
+        return Ok(());
+    };
+    out.write_all(&line_row(line, settled, kept))?;
+    for k in 0..kept {
+        if let Ok(EventRecord { tick, value }) = session.event(line, k) {
+            out.write_all(&change_row(tick, value))?;
+        }
+    }
+    Ok(())
+}
+
+// Lists the outputs, in their order.
+fn list_outputs<W: Write>(session: &Session<Ternary>, out: &mut W) -> io::Result<()> {
+    for place in 0..session.netlist().outputs() {
+        if let Some(line) = session.netlist().output(place) {
+            list_line(session, line, out)?;
+        }
+    }
+    Ok(())
+}
+
+// Simulates a netlist with its stimulus, and lists the outputs, or the first fault.
+fn simulate<W: Write>(netlist: Netlist, stimulus: &[u8], out: &mut W) -> io::Result<()> {
+    let first = netlist.lines() + netlist.outputs() + 3;
+    let mut store = [BLANK; RECORDS];
+    let starts = [Ternary::X; Draft::MOST_INPUTS];
+    let inputs = netlist.inputs();
+    let mut session = Session::make(netlist, &mut store, &starts[..inputs]);
+    if let Err(fault) = give_all(&mut session, stimulus, first) {
+        return out.write_all(&fault.row());
+    }
+    let _ran = session.run(u32::MAX);
+    list_outputs(&session, out)
+}
+
+// Lists a deck and its stimulus: writes the listing, or the row of the first fault.
+pub fn list<W: Write>(bytes: &[u8], out: &mut W) -> io::Result<()> {
+    let bytes = &bytes[..bytes.len().min(MOST_BYTES)];
+    let (outcome, netlist) = read_netlist(bytes);
+    match outcome {
+        Ok(used) => simulate(netlist, &bytes[used..], out),
+        Err(fault) => out.write_all(&fault.row()),
+    }
+}

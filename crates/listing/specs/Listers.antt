@@ -1,8 +1,9 @@
--- A session in three values, of which the lister's own functions speak.
+-- A session in three values, and what the lister's own functions say of it.
+use Rattle.std.specs.Prelude.{◌≡◌, ℕ, List, length}
 use Rattle.engine.specs.Sessions as Sessions
 use Rattle.engine.specs.declared.session.Session.{Session}
-use Rattle.semantics.specs.Accounts.{Account}
-use Rattle.semantics.specs.Machines.{Machine}
+use Rattle.semantics.specs.Accounts.{Account, KeptChanges}
+use Rattle.semantics.specs.Machines.{Machine, IsLine}
 use Rattle.values.specs.Knowledge.{three_valued}
 use Rattle.values.specs.declared.ternary.Ternary.{Ternary}
 
@@ -12,3 +13,9 @@ machine_in s = Sessions.machine_in three_valued s
 -- a value means itself
 abbrev pub StandsFor : Session Ternary → Account Ternary → Type 0
 StandsFor s a = Sessions.StandsFor (λ v. v) three_valued s a
+
+-- so many changes of a line are kept, at these ticks
+pub record Contents (s : Machine Ternary) (a : Account Ternary) (n : ℕ) (ticks : List ℕ) (count : ℕ) : Type 0 where
+  pub a_line : IsLine s.topology n
+  pub kept : KeptChanges s a n ticks
+  pub so_many : length ticks ≡ count

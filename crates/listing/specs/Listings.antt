@@ -26,13 +26,17 @@ abbrev pub unknown : Account Ternary
 unknown = made (λ n. X)
 
 module _ (s : Machine Ternary) (a : Account Ternary) where
+  -- the rows of changes of a line at these ticks
+  abbrev pub change_rows : ℕ → List ℕ → List ℕ
+  change_rows n ticks = flat_map (λ t. change_row t (value s a n t)) ticks
+
   -- The rows of a line: how far it is settled and how many of its changes are kept, and then each of these. No number is too
   -- long for its columns.
   pub record LineRows (n : ℕ) (rows : List ℕ) : Type 0 where
     pub ticks : List ℕ
     pub kept : KeptChanges s a n ticks
     pub fit : (n < 10 ^ 4) × (settled s.topology a n < 10 ^ 10) × (length ticks < 10 ^ 4)
-    pub are : rows ≡ line_row n (settled s.topology a n) (length ticks) ++ flat_map (λ t. change_row t (value s a n t)) ticks
+    pub are : rows ≡ line_row n (settled s.topology a n) (length ticks) ++ change_rows n ticks
 
   -- the rows of lines, in the order given
   pub data RowsOf : List ℕ → List ℕ → Type 0 where

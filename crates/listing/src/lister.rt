@@ -5,8 +5,8 @@ ghost use Rattle.deck.specs.Faults.{told};
 ghost use Rattle.engine.specs.Answers.{numbered};
 ghost use Rattle.engine.specs.Sessions.{KeepsItsOwn, lines_of};
 ghost use Rattle.listing.specs.Given.{Gives, Whole, FirstFault};
-ghost use Rattle.listing.specs.Listers.{machine_in, StandsFor};
-ghost use Rattle.listing.specs.Listings.{LineRows, RowsOf, Simulated, Listing, records};
+ghost use Rattle.listing.specs.Listers.{machine_in, StandsFor, Contents};
+ghost use Rattle.listing.specs.Listings.{change_rows, LineRows, RowsOf, Simulated, Listing, records};
 ghost use Rattle.netlist.specs.Closed.{circuit};
 ghost use Rattle.semantics.specs.Accounts.{Account};
 ghost use Rattle.semantics.specs.Circuits as Circuits;
@@ -74,18 +74,32 @@ fn give_all(session: &mut Session<Ternary>, stimulus: &[u8], first: usize) -> Re
     Ok(())
 }
 
-// Lists the changes of a line, from one on.
-fn list_line<W: Write>(session: &Session<Ternary>, line: u32, out: &mut W) -> io::Result<()> {
-    let Ok(LineState { settled, kept }) = session.state(line) else {
-        return Ok(());
-    };
-    out.write_all(&line_row(line, settled, kept))?;
+// Lists so many changes of a line.
+fn list_changes<W: Write>(
+    session: &Session<Ternary>,
+    line: u32,
+    kept: usize,
+    out: &mut W,
+) -> io::Result<()>
+    ensures { (a : Account Ternary) → StandsFor session.now a → (ticks : List ℕ) → Contents (machine_in session.now) a line ticks kept → OnOk result (Appends (W.contents out.old) (W.contents out.new) (change_rows (machine_in session.now) a line ticks)) }
+{
     for k in 0..kept {
         if let Ok(EventRecord { tick, value }) = session.event(line, k) {
             out.write_all(&change_row(tick, value))?;
         }
     }
     Ok(())
+}
+
+// Lists a line: how far it is settled, and its changes.
+fn list_line<W: Write>(session: &Session<Ternary>, line: u32, out: &mut W) -> io::Result<()>
+    ensures { (a : Account Ternary) → StandsFor session.now a → IsLine (machine_in session.now).topology line → (machine_in session.now).room < 10 ^ 4 → OnOk result ((rows : List ℕ) × LineRows (machine_in session.now) a line rows × Appends (W.contents out.old) (W.contents out.new) rows) }
+{
+    let Ok(LineState { settled, kept }) = session.state(line) else {
+        return Ok(());
+    };
+    out.write_all(&line_row(line, settled, kept))?;
+    list_changes(session, line, kept, out)
 }
 
 // Lists the outputs, in their order.

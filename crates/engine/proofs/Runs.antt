@@ -30,8 +30,9 @@ module _ {M : Type 0} (s : Machine M) where
   takes_of (Run.to_count takes moves) = takes
 
   -- with more to take, a run has made all that it was asked for
-  pub makes_all : {most count : ℕ} {a b : Account M} → Run s most a b count Ending.more → count ≡ most
-  makes_all (Run.to_count takes moves) = refl
+  pub makes_all : {most count : ℕ} {ending : Ending} {a b : Account M} → ending ≡ Ending.more → Run s most a b count ending → count ≡ most
+  makes_all more (Run.to_rest takes few rest) = cc
+  makes_all more (Run.to_count takes moves) = refl
 
   -- a take that was accepted
   pub record Accepted (a : Account M) (n : ℕ) (b : Account M) : Type 0 where
@@ -85,14 +86,14 @@ module _ {V M : Type 0} (meaning : V → M) (system : System M) (p q : Panel) (o
   pub ends_at_count : (n : ℕ) → MovesFirst (machine_of system q) under.now n → Run (machine_of system p) count a under.now count Ending.more
   ends_at_count n first = let first_here : MovesFirst (machine_of system p) under.now n = subst (λ s. MovesFirst s under.now n) same first in Run.to_count under.takes first_here.moves
 
--- So many full runs have led from an account of a log to one for which the lines stand. There is no more than one for each gate.
+-- so many full runs have led from one account to another, for which the lines stand; they are no more than there are gates
 pub record FullRuns {V M : Type 0} (meaning : V → M) (system : System M) (p : Panel) (a : Account M) (runs count : ℕ) (q : Panel) (store : List (EventRecord V)) : Type 0 where
   pub under : Under meaning system (machine_of system p) a count q store
   pub all_full : count ≡ runs * 4294967295
   pub not_past : runs ≤ length p.circuit.gates
 
 module _ {M : Type 0} (system : System M) (p : Panel) (is : Sure p) (a : Account M) (log : Log (machine_of system p) a) where
-  -- as many full runs as there are gates, and one more, would make too many takes
+  -- full runs make no more takes than can be made
   runs_bounded : {b : Account M} (runs : ℕ) → Takes (machine_of system p) (runs * 4294967295) a b → runs ≤ length p.circuit.gates
   runs_bounded {b = b} runs takes =
       let most = takes_are_bounded system p.circuit (room p) is.wired is.reached a b (runs * 4294967295) log takes in

@@ -137,8 +137,8 @@ pub(crate) fn run<V: ValueSystem>(lines: &mut Lines, store: &mut [EventRecord<V>
     }
 }
 
-// Takes gates, each time the first, until no front can move, and answers how many takes that took. Each moves a front on by a
-// tick at least, and none comes to u32::MAX, so as many full runs as there are gates are never made, if there are gates.
+// Takes gates, each time the first, until no front can move, and answers how many takes that took. No front can move u32::MAX
+// times, so of all the runs no more than there are gates end with more to take.
 pub(crate) fn run_to_rest<V: ValueSystem>(lines: &mut Lines, store: &mut [EventRecord<V>]) -> u64
     requires { Holds (panel lines.old) store.old }
     ensures keeps { Keeps (panel lines.old) (panel lines.new) store.old store.new }

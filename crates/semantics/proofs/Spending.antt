@@ -19,6 +19,7 @@ module _ {M : Type 0} (c : Circuit) (rule : Rule M) (room : ℕ) where
   spent : Account M → ℕ
   spent a = total (λ k. a.front (suc c.inputs + k)) (length c.gates)
 
+  -- a take adds a tick at least
   spends : (a : Account M) (n front : ℕ) → CanTake s a n front → spent a < spent (taken a n front)
   unfolding spent
   spends a n front can =

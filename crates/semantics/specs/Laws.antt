@@ -101,7 +101,7 @@ module _ {M : Type 0} (s : Machine M) where
   abbrev pub SettledTimesAreBounded : ℕ → Type 0
   SettledTimesAreBounded most = (a : Account M) → Log s a → (n : ℕ) → settled s.topology a n ≤ most
 
-  -- From no log can more takes than so many be made one after another.
+  -- After every log no more takes than this can be made one after another.
   abbrev pub TakesAreBounded : ℕ → Type 0
   TakesAreBounded most = (a b : Account M) (count : ℕ) → Log s a → Takes s count a b → count ≤ most
 

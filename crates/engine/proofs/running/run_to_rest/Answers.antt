@@ -37,7 +37,7 @@ loop-runs-preserved g c =
       full = λ a h.
           let full = so_far.full a h in
           let answered = c.run-ran.ensures.answers full.under.now full.under.stands in
-          let all = makes_all (machine_of system q) (subst (λ e. Run (machine_of system q) 4294967295 full.under.now answered.0 c.run-ran.result.takes (ending_of e)) c.in_default.is answered.1) in
+          let all = makes_all (machine_of system q) (ap ending_of c.in_default.is) answered.1 in
           full_runs system p (sure c.args.lines.now) a h.log meaning (c.loop-runs.runs + 1) (c.loop-runs.takes + c.run-ran.result.takes) r c.run-ran.new.store
           (one_run_more meaning system p q c.args.store.now c.loop-runs.store so_far.keeps a c.loop-runs.takes full.under r c.run-ran.new.store answered.1 answered.2) (omega (arith, full.all_full));
     }

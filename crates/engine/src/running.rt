@@ -145,8 +145,9 @@ pub(crate) fn run_to_rest<V: ValueSystem>(lines: &mut Lines, store: &mut [EventR
     ensures answers { (a : Account V.Sense) → Stands V.meaning V.system (panel lines.old) store.old a → (b : Account V.Sense) × Run (machine_of V.system (panel lines.old)) result a b result Logs.Ending.rest × Stands V.meaning V.system (panel lines.new) store.new b }
     ensures rests { (a : Account V.Sense) → Stands V.meaning V.system (panel lines.old) store.old a → (b : Account V.Sense) → Stands V.meaning V.system (panel lines.new) store.new b → Rest (machine_of V.system (panel lines.new)) b }
 {
+    let gates = lines.netlist.gates();
     let mut takes = 0;
-    for runs in 0..lines.netlist.gates() + 1 {
+    for runs in 0..gates + 1 {
         let ran = run(lines, store, u32::MAX);
         takes += ran.takes as u64;
         if let Ending::Rest = ran.ending {

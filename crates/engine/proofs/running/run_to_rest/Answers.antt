@@ -21,7 +21,7 @@ overflow_add-takes g c =
     let few = c.loop-runs.invariant.few in
     let within = c.loop-runs-test.true in
     let gates = c.args.lines.now.netlist.places.few_gates in
-    omega (arith, c.gates-runs-end.ensures, count_gates c.args.lines.now.netlist)
+    omega (arith, c.gates-gates.ensures, count_gates c.args.lines.now.netlist)
 
 pub loop-runs-preserved : goal.loop-runs-preserved
 loop-runs-preserved g c =
@@ -43,10 +43,10 @@ loop-runs-preserved g c =
     }
 
 pub returns-clause-answers : goal.returns-clause-answers
-returns-clause-answers g c a h = absurd (let past = c.loop-runs-test.false in omega (arith, (c.loop-runs.invariant.full a h).not_past, c.gates-runs-end.ensures))
+returns-clause-answers g c a h = absurd (let past = c.loop-runs-test.false in omega (arith, (c.loop-runs.invariant.full a h).not_past, c.gates-gates.ensures))
 
 pub returns-clause-rests : goal.returns-clause-rests
-returns-clause-rests g c a h = absurd (let past = c.loop-runs-test.false in omega (arith, (c.loop-runs.invariant.full a h).not_past, c.gates-runs-end.ensures))
+returns-clause-rests g c a h = absurd (let past = c.loop-runs-test.false in omega (arith, (c.loop-runs.invariant.full a h).not_past, c.gates-gates.ensures))
 
 pub returns-in-Rest-clause-keeps : goal.returns-in-Rest-clause-keeps
 returns-in-Rest-clause-keeps g c = keeps_on (panel c.args.lines.now) (panel c.loop-runs.lines) (panel c.run-ran.new.lines) c.args.store.now c.loop-runs.store c.run-ran.new.store c.loop-runs.invariant.keeps c.run-ran.ensures.keeps

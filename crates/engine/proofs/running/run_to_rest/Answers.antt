@@ -1,6 +1,6 @@
-use Rattle.std.proofs.Common.{◌+◌, refl, ap, subst, arith}
+use Rattle.std.proofs.Common.{◌+◌, refl, ap, arith}
 use Rattle.netlist.proofs.Rewriting.{count_gates}
-use Rattle.semantics.specs.Logs.{Takes, Run}
+use Rattle.semantics.specs.Logs.{Takes}
 use Rattle.engine.specs.Answers.{ending_of}
 use Rattle.engine.specs.Lines.{panel}
 use Rattle.engine.specs.Standing.{machine_of}

@@ -136,3 +136,23 @@ pub(crate) fn run<V: ValueSystem>(lines: &mut Lines, store: &mut [EventRecord<V>
         ending: Ending::Rest,
     }
 }
+
+// Takes gates, each time the first, until no front can move, and answers how many takes that took. No front can move u32::MAX
+// times, so of all the runs no more than there are gates end with more to take.
+pub(crate) fn run_to_rest<V: ValueSystem>(lines: &mut Lines, store: &mut [EventRecord<V>]) -> u64
+    requires { Holds (panel lines.old) store.old }
+    ensures keeps { Keeps (panel lines.old) (panel lines.new) store.old store.new }
+    ensures answers { (a : Account V.Sense) → Stands V.meaning V.system (panel lines.old) store.old a → (b : Account V.Sense) × Run (machine_of V.system (panel lines.old)) result a b result Logs.Ending.rest × Stands V.meaning V.system (panel lines.new) store.new b }
+    ensures rests { (a : Account V.Sense) → Stands V.meaning V.system (panel lines.old) store.old a → (b : Account V.Sense) → Stands V.meaning V.system (panel lines.new) store.new b → Rest (machine_of V.system (panel lines.new)) b }
+{
+    let gates = lines.netlist.gates();
+    let mut takes = 0;
+    for runs in 0..gates + 1 {
+        let ran = run(lines, store, u32::MAX);
+        takes += ran.takes as u64;
+        if let Ending::Rest = ran.ending {
+            return takes;
+        }
+    }
+    takes
+}

@@ -110,6 +110,17 @@ impl<'a, V: ValueSystem> Session<'a, V> {
         running::run(&mut self.lines, self.store, most)
     }
 
+    // Runs to rest, and answers how many takes that took.
+    pub fn run_to_rest(&mut self) -> u64
+        ensures keeps { KeepsItsOwn self.old self.new }
+        ensures without_lines { HasNoLines self.old → result ≡ 0 }
+        ensures answers { (a : Account V.Sense) → StandsFor V.meaning V.system self.old a → (b : Account V.Sense) × Run (machine_in V.system self.old) result a b result Logs.Ending.rest × StandsFor V.meaning V.system self.new b }
+        ensures rests { (a : Account V.Sense) → StandsFor V.meaning V.system self.old a → (b : Account V.Sense) → StandsFor V.meaning V.system self.new b → Rest (machine_in V.system self.new) b }
+        ensures settled_to_distances { (a : Account V.Sense) → StandsFor V.meaning V.system self.old a → (b : Account V.Sense) → StandsFor V.meaning V.system self.new b → SettledToDistances (machine_in V.system self.new) b }
+    {
+        running::run_to_rest(&mut self.lines, self.store)
+    }
+
     // Drops the changes below a tick, which becomes the trim tick.
     pub fn trim(&mut self, tick: u32) -> Result<(), Refusal>
         ensures keeps { KeepsItsOwn self.old self.new }

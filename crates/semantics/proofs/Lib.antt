@@ -20,6 +20,7 @@ pub mod Reaching
 pub mod Resting
 pub mod Ruling
 pub mod Settling
+pub mod Spending
 pub mod Sums
 pub mod Testing
 pub mod Tying

@@ -1,5 +1,5 @@
 -- A take can lead to one front only, and a run to one account and one answer.
-use Rattle.std.proofs.Common.{◌≡◌, ℕ, ◌+◌, ◌<◌, ◌≤◌, ◌⊎◌, refl, ap, sym, ◌∙◌, subst, ⊎_elim, arith}
+use Rattle.std.proofs.Common.{◌≡◌, ℕ, suc, ◌+◌, ◌<◌, ◌≤◌, ◌⊎◌, refl, ap, sym, ◌∙◌, subst, ⊎_elim, arith}
 use Rattle.std.proofs.lemmas.Bool.{cases_order}
 use Rattle.semantics.specs.Machines.{Machine}
 use Rattle.semantics.specs.Accounts.{Account, goal, Overflows}
@@ -35,6 +35,11 @@ module _ {M : Type 0} (s : Machine M) where
       let same : n ≡ m = one_first a n m first first' in
       let stop : front ≡ other = one_front a m front other (subst (λ k. CanTake s a k front) same can) can' in
       ap (λ k. taken a k front) same ∙ ap (taken a m) stop
+
+  -- takes after takes
+  pub takes_on : {k j : ℕ} {a b d : Account M} → Takes s k a b → Takes s j b d → Takes s (k + j) a d
+  takes_on {j = j} {a = a} {d = d} Takes.none more = let all : j ≡ 0 + j = omega arith in subst (λ n. Takes s n a d) all more
+  takes_on {j = j} {a = a} {d = d} (Takes.one_more {k = k} first can after) more = let all : suc (k + j) ≡ suc k + j = omega arith in subst (λ n. Takes s n a d) all (Takes.one_more first can (takes_on after more))
 
   -- Takes that end at rest are no fewer than any others from there; as many takes come to one account.
   pub no_more : {k j : ℕ} {a b d : Account M} → Takes s k a b → Rest s b → Takes s j a d → j ≤ k

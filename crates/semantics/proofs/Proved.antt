@@ -1,5 +1,5 @@
 -- The laws, for the rule of circuits.
-use Rattle.std.proofs.Common.{◌≡◌, ℕ, suc, ◌+◌, ◌*◌, refl, ⊎_elim, arith}
+use Rattle.std.proofs.Common.{◌≡◌, ℕ, suc, ◌+◌, ◌*◌, length, refl, ⊎_elim, arith}
 use Rattle.netlist.specs.Gates.{Circuit}
 use Rattle.netlist.specs.Judging.{AllReached}
 use Rattle.netlist.specs.Walks.{Reached}
@@ -8,14 +8,14 @@ use Rattle.values.specs.Systems.{System}
 use Rattle.semantics.specs.Accounts.{Account, value, before}
 use Rattle.semantics.specs.Circuits.{lines, topology, Wired}
 use Rattle.semantics.specs.CircuitMachine.{rule, machine}
-use Rattle.semantics.specs.Laws.{RuleDeterminesValues, LogsAreInOrder, KeptChangesFit, GatesRestOrCanBeTaken, RestIsWhereNoGateCanBeTaken, CallsAreDetermined, RunsHaveOutcomes, RunsComeToRest, SettledValuesStay, SettledTimesAreBounded, SettledIsTheDistance, AlikeRestsAgree, TiesLines}
+use Rattle.semantics.specs.Laws.{RuleDeterminesValues, LogsAreInOrder, KeptChangesFit, GatesRestOrCanBeTaken, RestIsWhereNoGateCanBeTaken, CallsAreDetermined, RunsHaveOutcomes, RunsComeToRest, SettledValuesStay, SettledTimesAreBounded, TakesAreBounded, SettledIsTheDistance, AlikeRestsAgree, TiesLines}
 use Rattle.semantics.specs.Logs.{Log}
 use Rattle.semantics.specs.Machines.{IsGate}
 use Rattle.semantics.proofs.Agreeing.{agree}
 use Rattle.semantics.proofs.Bounding.{bound, bounded}
 use Rattle.semantics.proofs.Goals.{goal_attained}
 use Rattle.semantics.proofs.Invariants.{Invariant}
-use Rattle.semantics.proofs.Keeping.{log_held, steps_go}
+use Rattle.semantics.proofs.Keeping.{log_held, steps_go, takes_go}
 use Rattle.semantics.proofs.Listing.{one_list}
 use Rattle.semantics.proofs.Outcomes.{one_front, one_run}
 use Rattle.semantics.proofs.Ranking.{settled_most}
@@ -23,6 +23,7 @@ use Rattle.semantics.proofs.Reaching.{outcome, comes_to_rest}
 use Rattle.semantics.proofs.Resting.{resting, no_rest, can_move, rests_or_moves, rest_is_where_none}
 use Rattle.semantics.proofs.Ruling.{begins, obeys, only_initials, only_values, rule_carries, rule_local}
 use Rattle.semantics.proofs.Settling.{settled_is_distance}
+use Rattle.semantics.proofs.Spending.{takes_most}
 use Rattle.semantics.proofs.Tying.{lines_tied}
 use Rattle.semantics.proofs.Wiring.{gate_range, gate_below, sound}
 
@@ -81,6 +82,9 @@ module _ {M : Type 0} (s : System M) (c : Circuit) where
 
     pub settled_times_are_bounded : AllReached c → SettledTimesAreBounded (machine s c room) (2000000000 + 65535 * lines c)
     settled_times_are_bounded reached a log = settled_most s c room wired a (held a log) reached
+
+    pub takes_are_bounded : AllReached c → TakesAreBounded (machine s c room) (length c.gates * (2000000000 + 65535 * lines c))
+    takes_are_bounded reached a b count log takes = takes_most c (rule s c) room (2000000000 + 65535 * lines c) (settled_most s c room wired b (takes_go (machine s c room) (rule_local s c wired) (held a log) takes).held reached) takes
 
     pub settled_is_the_distance : SettledIsTheDistance (machine s c room)
     settled_is_the_distance a log rest = settled_is_distance (machine s c room) a (held a log) (sound c wired) rest

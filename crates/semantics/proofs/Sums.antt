@@ -1,10 +1,15 @@
 -- Sums over the numbers below a bound.
-use Rattle.std.proofs.Common.{◌≡◌, ℕ, zero, suc, ◌+◌, ◌<◌, ◌≤◌, subst, ⊎_elim, arith}
+use Rattle.std.proofs.Common.{◌≡◌, ℕ, zero, suc, ◌+◌, ◌*◌, ◌<◌, ◌≤◌, subst, ⊎_elim, arith}
 use Rattle.std.proofs.lemmas.Bool.{cases_eq}
 
 unfoldable pub total : (ℕ → ℕ) → ℕ → ℕ
 total f zero = 0
 total f (suc k) = f k + total f k
+
+pub total_most : (f : ℕ → ℕ) (most k : ℕ) → ((j : ℕ) → j < k → f j ≤ most) → total f k ≤ k * most
+unfolding total
+total_most f most zero each = omega arith
+total_most f most (suc k) each = let last = each k (omega arith) in let rest = total_most f most k (λ j below. each j (omega arith)) in omega arith
 
 module _ (f g : ℕ → ℕ) (no_more : (j : ℕ) → f j ≤ g j) where
   pub total_grows : (k : ℕ) → total f k ≤ total g k

@@ -8,7 +8,7 @@ use Rattle.semantics.specs.Circuits.{topology}
 use Rattle.semantics.specs.Comparisons.{Stays, Alike, Agree, GivenTied, LinesTied}
 use Rattle.semantics.specs.Computed.{initial, value}
 use Rattle.semantics.specs.Distances.{Distance}
-use Rattle.semantics.specs.Logs.{Ending, Run, Steps, Log}
+use Rattle.semantics.specs.Logs.{Ending, Takes, Run, Steps, Log}
 use Rattle.semantics.specs.Moves.{CanTake, CanMove, Takeable, Rests, Rest}
 use Rattle.semantics.specs.Machines.{IsInput, IsGate, IsLine, Machine}
 use Rattle.semantics.specs.Rules.{Begins, Obeys}
@@ -100,6 +100,10 @@ module _ {M : Type 0} (s : Machine M) where
   -- In every log no line is settled further than to this tick.
   abbrev pub SettledTimesAreBounded : ℕ → Type 0
   SettledTimesAreBounded most = (a : Account M) → Log s a → (n : ℕ) → settled s.topology a n ≤ most
+
+  -- After every log no more takes than this can be made one after another.
+  abbrev pub TakesAreBounded : ℕ → Type 0
+  TakesAreBounded most = (a b : Account M) (count : ℕ) → Log s a → Takes s count a b → count ≤ most
 
   -- At every rest each line is settled exactly to its distance.
   abbrev pub SettledIsTheDistance : Type 0

@@ -1,10 +1,10 @@
 // The laws of settled lines in one value system, for all wired circuits, rooms and logs.
-ghost use Rattle.std.specs.Prelude.{◌≡◌, ℕ, ◌+◌, ◌*◌};
+ghost use Rattle.std.specs.Prelude.{◌≡◌, ℕ, ◌+◌, ◌*◌, length};
 ghost use Rattle.netlist.specs.Gates.{Circuit};
 ghost use Rattle.netlist.specs.Judging.{AllReached};
 ghost use Rattle.semantics.specs.Circuits.{lines, Wired};
 ghost use Rattle.semantics.specs.CircuitMachine.{machine};
-ghost use Rattle.semantics.specs.Laws.{RuleDeterminesValues, LogsAreInOrder, KeptChangesFit, GatesRestOrCanBeTaken, RestIsWhereNoGateCanBeTaken, CallsAreDetermined, RunsHaveOutcomes, RunsComeToRest, SettledValuesStay, SettledTimesAreBounded, SettledIsTheDistance, AlikeRestsAgree};
+ghost use Rattle.semantics.specs.Laws.{RuleDeterminesValues, LogsAreInOrder, KeptChangesFit, GatesRestOrCanBeTaken, RestIsWhereNoGateCanBeTaken, CallsAreDetermined, RunsHaveOutcomes, RunsComeToRest, SettledValuesStay, SettledTimesAreBounded, TakesAreBounded, SettledIsTheDistance, AlikeRestsAgree};
 ghost use Rattle.values.specs.Knowledge.{three_valued};
 ghost use Rattle.values.specs.Lanes.{lanes};
 ghost use Rattle.values.specs.Systems.{two_valued};
@@ -82,6 +82,11 @@ pub fn settled_values_stay<V: ValueSystem>()
 // greatest delay for each line.
 pub fn settled_times_are_bounded<V: ValueSystem>()
     ensures in_every_log { (c : Circuit) (room : ℕ) → Wired c → AllReached c → SettledTimesAreBounded (machine V.system c room) (2000000000 + 65535 * lines c) }
+{}
+
+// If every gate is reached by an input, the takes made one after another are at most that many for each gate.
+pub fn takes_are_bounded<V: ValueSystem>()
+    ensures in_every_log { (c : Circuit) (room : ℕ) → Wired c → AllReached c → TakesAreBounded (machine V.system c room) (length c.gates * (2000000000 + 65535 * lines c)) }
 {}
 
 // At rest every line is settled exactly to its distance.

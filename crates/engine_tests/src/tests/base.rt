@@ -103,6 +103,7 @@ pub(super) enum Call {
     Hold(u32, u32),
     Take(u32),
     Run(u32),
+    ToRest,
     Trim(u32),
     Value(u32, u32),
     Event(u32, usize),
@@ -117,6 +118,7 @@ pub(super) enum Answer<V> {
     Settled(u32),
     Rest(u32),
     More(u32),
+    Took(u64),
     Shows(V),
     Change(u32, V),
     Stands(u32, usize),
@@ -131,6 +133,7 @@ fn spelled<V: Scale>(answer: Answer<Level>) -> Answer<V> {
         Answer::Settled(tick) => Answer::Settled(tick),
         Answer::Rest(takes) => Answer::Rest(takes),
         Answer::More(takes) => Answer::More(takes),
+        Answer::Took(takes) => Answer::Took(takes),
         Answer::Shows(level) => Answer::Shows(V::of(level)),
         Answer::Change(tick, level) => Answer::Change(tick, V::of(level)),
         Answer::Stands(settled, kept) => Answer::Stands(settled, kept),
@@ -159,6 +162,7 @@ fn tried<V: Scale>(session: &mut Session<V>, call: Call) -> Result<Answer<V>, Re
         }
         Call::Take(line) => Answer::Settled(session.take(line)?),
         Call::Run(most) => ran(session.run(most)),
+        Call::ToRest => Answer::Took(session.run_to_rest()),
         Call::Trim(tick) => {
             session.trim(tick)?;
             Answer::Done

@@ -1,14 +1,18 @@
 // Runs and takes: which gates they take, and that every rest is the same.
-use super::base::Answer::{Done, More, Refused, Rest, Resting, Settled, Shows, Stands};
-use super::base::Call::{AtRest, Feed, Hold, Run, State, Take, Value};
+use super::base::Answer::{Done, More, Refused, Rest, Resting, Settled, Shows, Stands, Took};
+use super::base::Call::{AtRest, Feed, Hold, Run, State, Take, ToRest, Value};
 use super::base::Level::Start;
 use super::base::{
-    Answer, Call, HIGH, LOW, Level, OTHERS, PULSE, SOME, Story, Told, Wiring, check, check_in,
+    Answer, Call, HIGH, LOW, Level, OTHERS, PULSE, SOME, Scale, Story, Told, Wiring, begun, check,
+    check_in, check_log, closed, untouched,
 };
+use engine::session::Session;
 use netlist::kind::Kind::{And, Buf, Not};
 use std::alloc::Global;
 use std::process::Abort;
 use std::test::Fail;
+use values::bit::Bit;
+use values::lanes::Lanes;
 use values::ternary::Ternary;
 
 // What the lines of a pulse come to.
@@ -143,6 +147,80 @@ fn runs_cut_in_any_way_come_to_one_rest(rt: HostRuntime) -> Result<(), Fail> {
     ];
     for log in logs {
         check_pulse(&rt, rt.alloc(), log)?;
+    }
+    Ok(())
+}
+
+// Runs one session to rest, and another that was given the same by a run of u32::MAX.
+fn check_to_rest<V: Scale>(
+    rt: &impl Abort,
+    heap: Global,
+    wiring: Wiring,
+    records: usize,
+    given: &[(Call, Answer<Level>)],
+    takes: u32,
+) -> Result<(), Fail> {
+    let starts = begun::<V>(heap, &[LOW])?;
+    let mut store = untouched::<V>(heap, records)?;
+    let mut session = Session::make(closed(wiring)?, &mut store, &starts);
+    check_log(rt, &mut session, given);
+    let to_rest = [
+        (ToRest, Took(takes as u64)),
+        (AtRest, Resting(true)),
+        (ToRest, Took(0)),
+    ];
+    check_log(rt, &mut session, &to_rest);
+    let mut other_store = untouched::<V>(heap, records)?;
+    let mut other = Session::make(closed(wiring)?, &mut other_store, &starts);
+    check_log(rt, &mut other, given);
+    check_log(rt, &mut other, &[(Run(u32::MAX), Rest(takes))]);
+    assert!(rt; session.same_store(&other), "{given:?}");
+    Ok(())
+}
+
+#[test]
+fn running_to_rest_is_a_run_long_enough(rt: HostRuntime) -> Result<(), Fail> {
+    // Line 2 reads itself, so each take moves it by one tick.
+    let looped = Wiring {
+        inputs: 1,
+        gates: &[(And, 1, &[1, 2])],
+    };
+    let table: [(Wiring, usize, &[_], u32); 6] = [
+        // Nothing is given.
+        (PULSE, 9, &[], 0),
+        (
+            PULSE,
+            9,
+            &[(Feed(1, 10, SOME), Done), (Hold(1, 20), Done)],
+            2,
+        ),
+        // Line 3 is full.
+        (
+            PULSE,
+            6,
+            &[(Feed(1, 10, SOME), Done), (Hold(1, 20), Done)],
+            2,
+        ),
+        // The front of line 2 is ahead of that of line 3.
+        (
+            PULSE,
+            9,
+            &[
+                (Hold(1, 5), Done),
+                (Take(2), Settled(7)),
+                (Feed(1, 10, SOME), Done),
+                (Hold(1, 20), Done),
+            ],
+            3,
+        ),
+        (looped, 4, &[(Hold(1, 100), Done)], 100),
+        // Too few records for lines.
+        (PULSE, 5, &[(Hold(1, 20), Refused(12))], 0),
+    ];
+    for (wiring, records, given, takes) in table {
+        check_to_rest::<Bit>(&rt, rt.alloc(), wiring, records, given, takes)?;
+        check_to_rest::<Ternary>(&rt, rt.alloc(), wiring, records, given, takes)?;
+        check_to_rest::<Lanes>(&rt, rt.alloc(), wiring, records, given, takes)?;
     }
     Ok(())
 }

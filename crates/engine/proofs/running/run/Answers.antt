@@ -1,9 +1,9 @@
-use Rattle.std.proofs.Common.{◌≡◌, suc, ◌+◌, refl, subst, arith}
+use Rattle.std.proofs.Common.{refl, subst, arith}
 use Rattle.semantics.specs.Logs.{Takes, Ending, Run}
 use Rattle.engine.specs.Lines.{panel}
 use Rattle.engine.specs.Standing.{machine_of}
 use Rattle.engine.proofs.Moving.{keeps_on}
-use Rattle.engine.proofs.Runs.{Under, one_more, ends_at_rest, ends_at_count}
+use Rattle.engine.proofs.Runs.{one_more, ends_at_rest, ends_at_count}
 use Rattle.engine.proofs.running.run.Goals as goal
 
 pub loop-next-init : goal.loop-next-init
@@ -21,15 +21,13 @@ loop-next-preserved g c =
     let q = panel c.loop-next.lines in
     let r = panel c.take-settled.new.lines in
     let so_far = c.loop-next.invariant in
-    let more : suc c.loop-next.takes ≡ c.loop-next.takes + 1 = omega arith in
     record {
       few = let few = so_far.few in let other = c.if-takes-most.false in omega arith;
       keeps = keeps_on p q r c.args.store.now c.loop-next.store c.take-settled.new.store so_far.keeps c.take-settled.ensures.keeps;
       under = λ a h.
           let under = so_far.under a h in
           let answered = c.take-settled.ensures.answers under.now under.stands in
-          subst (λ k. Under meaning system (machine_of system p) a k r c.take-settled.new.store) more
-          (one_more meaning system p q c.args.store.now c.loop-next.store so_far.keeps a c.loop-next.takes under c.in-Some.next.line _ answered.0 r c.take-settled.new.store (c.in-Some.ensures under.now under.stands) answered.1 answered.2);
+          one_more meaning system p q c.args.store.now c.loop-next.store so_far.keeps a c.loop-next.takes under c.in-Some.next.line _ answered.0 r c.take-settled.new.store (c.in-Some.ensures under.now under.stands) answered.1 answered.2;
     }
 
 pub returns-then-takes-most-clause-answers : goal.returns-then-takes-most-clause-answers

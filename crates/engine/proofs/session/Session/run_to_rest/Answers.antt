@@ -1,0 +1,17 @@
+use Rattle.semantics.proofs.Proved.{settled_is_the_distance}
+use Rattle.engine.specs.Lines.{panel, room}
+use Rattle.engine.specs.Sessions.{machine_in}
+use Rattle.engine.proofs.Books.{sure}
+use Rattle.engine.proofs.Sessions.{nothing_given, none_run}
+use Rattle.engine.proofs.session.Session.run_to_rest.Goals as goal
+
+pub returns-clause-without_lines : goal.returns-clause-without_lines
+returns-clause-without_lines g c none =
+    let nothing = nothing_given g.V.ValueSystem.meaning g.V.ValueSystem.system c.args.self.now none in
+    (none_run (machine_in g.V.ValueSystem.system c.args.self.now) nothing.account nothing.no_line (c.run_to_rest.ensures.answers nothing.account nothing.stands).1).0
+
+pub returns-clause-settled_to_distances : goal.returns-clause-settled_to_distances
+returns-clause-settled_to_distances g c a h b stands =
+    let p = panel c.run_to_rest.new.lines in
+    let rest = c.run_to_rest.ensures.rests a h b stands in
+    settled_is_the_distance g.V.ValueSystem.system p.circuit (room p) (sure c.run_to_rest.new.lines).wired b stands.log rest

@@ -1,2 +1,4 @@
-pub mod Giving
 pub mod Changing
+pub mod Giving
+pub mod Outputs
+pub mod Simulating

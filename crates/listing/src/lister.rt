@@ -5,8 +5,8 @@ ghost use Rattle.deck.specs.Faults.{told};
 ghost use Rattle.engine.specs.Answers.{numbered};
 ghost use Rattle.engine.specs.Sessions.{KeepsItsOwn, lines_of};
 ghost use Rattle.listing.specs.Given.{Gives, Whole, FirstFault};
-ghost use Rattle.listing.specs.Listers.{machine_in, StandsFor, Contents};
-ghost use Rattle.listing.specs.Listings.{change_rows, LineRows, RowsOf, Simulated, Listing, records};
+ghost use Rattle.listing.specs.Listers.{machine_in, StandsFor, IsSessionOf, Contents};
+ghost use Rattle.listing.specs.Listings.{change_rows, LineRows, RowsOf, Simulated, Listing, unknown, records};
 ghost use Rattle.netlist.specs.Closed.{circuit};
 ghost use Rattle.semantics.specs.Accounts.{Account};
 ghost use Rattle.semantics.specs.Circuits as Circuits;
@@ -17,7 +17,7 @@ ghost use Rattle.values.specs.declared.ternary.Ternary.{Ternary};
 use crate::rows::{change_row, line_row};
 use deck::closing::read_netlist;
 use deck::fault::{Fault, Layer};
-use engine::session::{LineState, Session};
+use engine::session::Session;
 use events::record::EventRecord;
 use netlist::closed::Netlist;
 use netlist::draft::Draft;
@@ -84,9 +84,10 @@ fn list_changes<W: Write>(
     ensures { (a : Account Ternary) → StandsFor session.now a → (ticks : List ℕ) → Contents (machine_in session.now) a line ticks kept → OnOk result (Appends (W.contents out.old) (W.contents out.new) (change_rows (machine_in session.now) a line ticks)) }
 {
     for k in 0..kept {
-        if let Ok(EventRecord { tick, value }) = session.event(line, k) {
-            out.write_all(&change_row(tick, value))?;
-        }
+        let Ok(change) = session.event(line, k) else {
+            return Ok(());
+        };
+        out.write_all(&change_row(change.tick, change.value))?;
     }
     Ok(())
 }
@@ -95,39 +96,59 @@ fn list_changes<W: Write>(
 fn list_line<W: Write>(session: &Session<Ternary>, line: u32, out: &mut W) -> io::Result<()>
     ensures { (a : Account Ternary) → StandsFor session.now a → IsLine (machine_in session.now).topology line → (machine_in session.now).room < 10 ^ 4 → OnOk result ((rows : List ℕ) × LineRows (machine_in session.now) a line rows × Appends (W.contents out.old) (W.contents out.new) rows) }
 {
-    let Ok(LineState { settled, kept }) = session.state(line) else {
+    let Ok(state) = session.state(line) else {
         return Ok(());
     };
-    out.write_all(&line_row(line, settled, kept))?;
-    list_changes(session, line, kept, out)
+    out.write_all(&line_row(line, state.settled, state.kept))?;
+    list_changes(session, line, state.kept, out)
 }
 
 // Lists the outputs, in their order.
-fn list_outputs<W: Write>(session: &Session<Ternary>, out: &mut W) -> io::Result<()> {
+fn list_outputs<W: Write>(session: &Session<Ternary>, out: &mut W) -> io::Result<()>
+    ensures { (a : Account Ternary) → StandsFor session.now a → (machine_in session.now).room < 10 ^ 4 → OnOk result ((text : List ℕ) × RowsOf (machine_in session.now) a (lines_of session.now).circuit.outputs text × Appends (W.contents out.old) (W.contents out.new) text) }
+{
     for place in 0..session.netlist().outputs() {
-        if let Some(line) = session.netlist().output(place) {
-            list_line(session, line, out)?;
-        }
+        let Some(line) = session.netlist().output(place) else {
+            return Ok(());
+        };
+        list_line(session, line, out)?;
     }
     Ok(())
 }
 
+// Makes a session in the lister's store, whose inputs begin with X.
+fn open<'a>(netlist: Netlist, store: &'a mut [EventRecord<Ternary>]) -> Session<'a, Ternary>
+    requires some_lines { 0 < Circuits.lines (circuit netlist) }
+    requires its_store { length store.old ≡ 4096 }
+    ensures of_the_netlist { IsSessionOf (circuit netlist) result }
+    ensures begins { StandsFor result unknown }
+{
+    let inputs = netlist.inputs();
+    let starts = [Ternary::X; Draft::MOST_INPUTS];
+    Session::make(netlist, store, &starts[..inputs])
+}
+
 // Simulates a netlist with its stimulus, and lists the outputs, or the first fault.
-fn simulate<W: Write>(netlist: Netlist, stimulus: &[u8], out: &mut W) -> io::Result<()> {
+fn simulate<W: Write>(netlist: Netlist, stimulus: &[u8], out: &mut W) -> io::Result<()>
+    requires some_lines { 0 < Circuits.lines (circuit netlist) }
+    requires few_bytes { length stimulus.now ≤ 32768 }
+    ensures { OnOk result ((text : List ℕ) × Simulated (circuit netlist) (records (circuit netlist) + 1) stimulus.now text × Appends (W.contents out.old) (W.contents out.new) text) }
+{
     let first = netlist.lines() + netlist.outputs() + 3;
     let mut store = [BLANK; RECORDS];
-    let starts = [Ternary::X; Draft::MOST_INPUTS];
-    let inputs = netlist.inputs();
-    let mut session = Session::make(netlist, &mut store, &starts[..inputs]);
+    let mut session = open(netlist, &mut store);
     if let Err(fault) = give_all(&mut session, stimulus, first) {
         return out.write_all(&fault.row());
     }
-    let _ran = session.run(u32::MAX);
+    let _takes = session.run_to_rest();
     list_outputs(&session, out)
 }
 
-// Lists a deck and its stimulus: writes the listing, or the row of the first fault.
-pub fn list<W: Write>(bytes: &[u8], out: &mut W) -> io::Result<()> {
+// Lists a deck and its stimulus: writes the listing of so many bytes at most. Nothing but the bytes decides what is listed,
+// and an error is one of the writer's alone.
+pub fn list<W: Write>(bytes: &[u8], out: &mut W) -> io::Result<()>
+    ensures lists { OnOk result ((text : List ℕ) × Listing (take 32768 bytes.now) text × Appends (W.contents out.old) (W.contents out.new) text) }
+{
     let bytes = &bytes[..bytes.len().min(MOST_BYTES)];
     let (outcome, netlist) = read_netlist(bytes);
     match outcome {

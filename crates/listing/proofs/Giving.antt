@@ -142,15 +142,18 @@ module _ (start : Session Ternary) (stimulus : List ℕ) (first : ℕ) where
           let b = under.stands a stands in
           let d = answers b.0 b.2 in
           let stayed : d.0 ≡ b.0 = stays (machine_in now) t.entry number b.0 d.0 d.1 in
-          let gives = subst (λ m. Gives m b.0 t.entry (Err number) b.0) same (subst (λ x. Gives (machine_in now) b.0 t.entry (Err number) x) stayed d.1) in
-          (d.0, d.2, record {
-            before = es;
-            account = b.0;
-            given = b.1;
-            rest = p.rest;
-            spelled = spelled_before;
-            stops = Stops.refused t.entry q.rest took.spelling (subst (λ n. Legal n t.entry) (took_lines) took.legal) gives (is ∙ ap (λ n. record { number = number; layer = 83; at = n; column = 1 }) number_before);
-          })
+          let gives = subst (λ m. Gives m b.0 t.entry (Err number) b.0) same (subst (λ x. Gives (machine_in now) b.0 t.entry (Err number) x) stayed d.1) in (
+            d.0,
+            d.2,
+            record {
+              before = es;
+              account = b.0;
+              given = b.1;
+              rest = p.rest;
+              spelled = spelled_before;
+              stops = Stops.refused t.entry q.rest took.spelling (subst (λ n. Legal n t.entry) (took_lines) took.legal) gives (is ∙ ap (λ n. record { number = number; layer = 83; at = n; column = 1 }) number_before);
+            },
+          )
         where
           took_lines : p.lines ≡ lines (lines_of start).circuit
           took_lines = under.same_lines
@@ -169,27 +172,33 @@ module _ (start : Session Ternary) (stimulus : List ℕ) (first : ℕ) where
         by_phase : (x : Phase) → p.phase ≡ x → (b : Account Ternary) × StandsFor now b × FirstFault (machine_in start) a (lines (lines_of start).circuit) first stimulus f
         by_phase phase.Given is =
             let b = under.stands a stands in
-            let number = subst (λ x. p.at ≡ first + length (taken x es)) is under.number in
-            (b.0, b.2, record {
-              before = es;
-              account = b.0;
-              given = b.1;
-              rest = p.rest;
-              spelled = subst (λ x. stimulus ≡ spell (taken x es) ++ p.rest) is under.spelled;
-              stops = Stops.unread (subst (λ x. Fails x (lines (lines_of start).circuit) (first + length es) p.rest f) is (subst (λ n. Fails p.phase n (first + length es) p.rest f) under.same_lines (subst (λ n. Fails p.phase p.lines n p.rest f) number fails)));
-            })
+            let number = subst (λ x. p.at ≡ first + length (taken x es)) is under.number in (
+              b.0,
+              b.2,
+              record {
+                before = es;
+                account = b.0;
+                given = b.1;
+                rest = p.rest;
+                spelled = subst (λ x. stimulus ≡ spell (taken x es) ++ p.rest) is under.spelled;
+                stops = Stops.unread (subst (λ x. Fails x (lines (lines_of start).circuit) (first + length es) p.rest f) is (subst (λ n. Fails p.phase n (first + length es) p.rest f) under.same_lines (subst (λ n. Fails p.phase p.lines n p.rest f) number fails)));
+              },
+            )
         by_phase phase.Done is =
             let b = under.stands a stands in
             let longer = length-append es (End ∷ []) in
-            let number : p.at ≡ suc (first + length es) = omega (arith, subst (λ x. p.at ≡ first + length (taken x es)) is under.number) in
-            (b.0, b.2, record {
-              before = es;
-              account = b.0;
-              given = b.1;
-              rest = text End ++ (10 ∷ p.rest);
-              spelled = subst (λ x. stimulus ≡ spell (taken x es) ++ p.rest) is under.spelled ∙ spell_more es End p.rest;
-              stops = Stops.past_end p.rest refl (subst (λ x. Fails x (lines (lines_of start).circuit) (suc (first + length es)) p.rest f) is (subst (λ n. Fails p.phase n (suc (first + length es)) p.rest f) under.same_lines (subst (λ n. Fails p.phase p.lines n p.rest f) number fails)));
-            })
+            let number : p.at ≡ suc (first + length es) = omega (arith, subst (λ x. p.at ≡ first + length (taken x es)) is under.number) in (
+              b.0,
+              b.2,
+              record {
+                before = es;
+                account = b.0;
+                given = b.1;
+                rest = text End ++ (10 ∷ p.rest);
+                spelled = subst (λ x. stimulus ≡ spell (taken x es) ++ p.rest) is under.spelled ∙ spell_more es End p.rest;
+                stops = Stops.past_end p.rest refl (subst (λ x. Fails x (lines (lines_of start).circuit) (suc (first + length es)) p.rest f) is (subst (λ n. Fails p.phase n (suc (first + length es)) p.rest f) under.same_lines (subst (λ n. Fails p.phase p.lines n p.rest f) number fails)));
+              },
+            )
 
   pub begun : (p : Place) → p.rest ≡ stimulus → p.at ≡ first → p.lines ≡ lines (lines_of start).circuit → p.phase ≡ phase.Given → Giving start p
   begun p rest at same_lines begins = record {

@@ -1,5 +1,5 @@
 -- A netlist is simulated in a session that was just made.
-use Rattle.std.proofs.Common.{◌≡◌, ℕ, ◌+◌, ◌-◌, ◌*◌, ◌/◌, ◌^◌, ◌<◌, ◌≤◌, List, length, get_or, take, replicate, Ok, Result, refl, sym, ap, ◌∙◌, subst, ⊎_elim, arith}
+use Rattle.std.proofs.Common.{◌≡◌, ℕ, ◌+◌, ◌-◌, ◌/◌, ◌^◌, ◌<◌, ◌≤◌, List, length, get_or, take, replicate, Result, refl, ap, ◌∙◌, subst, ⊎_elim, arith}
 use mathlib.Core.Path.{ap₂}
 use Rattle.std.proofs.Math.Nat.{div-le_self}
 use Rattle.std.proofs.lemmas.Bool.{cases_lt}
@@ -23,7 +23,7 @@ use Rattle.values.specs.declared.ternary.Ternary.{Ternary}
 use Rattle.values.specs.declared.ternary.Ternary.TheVariants.{X}
 use Rattle.listing.specs.Listers.{machine_in, StandsFor, IsSessionOf}
 use Rattle.listing.specs.Given.{Whole, FirstFault}
-use Rattle.listing.specs.Listings.{listed, unknown, records, RowsOf, Simulated}
+use Rattle.listing.specs.Listings.{unknown, records, RowsOf, Simulated}
 
 -- takes give nothing
 takes_alike : (s : Machine Ternary) {k : ℕ} {a b : Account Ternary} → Takes s k a b → Alike s a b

@@ -1,4 +1,4 @@
-use Rattle.std.proofs.Common.{◌≡◌, ◌+◌, ◌-◌, min, length, Ok, Err, Option, None, Some, MatchOption, sym, ap, ◌∙◌, subst, arith}
+use Rattle.std.proofs.Common.{◌≡◌, ◌-◌, min, length, Option, None, Some, MatchOption, sym, ap, ◌∙◌, subst, arith}
 use Rattle.deck.specs.Faults.{told}
 use Rattle.deck.specs.declared.fault.Layer.{Layer}
 use Rattle.deck.proofs.Exits.{carried}
@@ -9,7 +9,7 @@ use Rattle.netlist.specs.Refusals.{number}
 use Rattle.semantics.specs.Circuits.{lines}
 use Rattle.stimulus.specs.Readers.{Place, place}
 use Rattle.stimulus.specs.declared.entry.Entry.TheVariants.{End}
-use Rattle.listing.proofs.Giving.{Giving, begun, went_on, refused, all_given, stopped}
+use Rattle.listing.proofs.Giving.{begun, went_on, refused, all_given, stopped}
 use Rattle.listing.proofs.lister.give_all.Goals as goal
 
 some_is : {A : Type 0} (x : Option A) (y : A) (P : Type 0) (Q : A → Type 0) → x ≡ Some y → MatchOption x P Q → Q y

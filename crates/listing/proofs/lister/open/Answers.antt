@@ -1,7 +1,6 @@
-use Rattle.std.proofs.Common.{◌≡◌, ℕ, ◌≤◌, List, length, take, replicate, refl, ◌∙◌, arith}
+use Rattle.std.proofs.Common.{◌≡◌, ℕ, ◌≤◌, length, take, replicate, refl, ◌∙◌, arith}
 use Rattle.std.proofs.lemmas.List.{length-replicate, length-take}
 use Rattle.netlist.specs.Closed.{circuit}
-use Rattle.values.specs.declared.ternary.Ternary.{Ternary}
 use Rattle.values.specs.declared.ternary.Ternary.TheVariants.{X}
 use Rattle.listing.proofs.Outputs.{few_lines}
 use Rattle.listing.proofs.Simulating.{opened, begins_unknown}

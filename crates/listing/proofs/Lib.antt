@@ -1,4 +1,5 @@
 pub mod Changing
 pub mod Giving
+pub mod Only
 pub mod Outputs
 pub mod Simulating

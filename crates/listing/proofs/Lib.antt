@@ -1,2 +1,3 @@
 pub mod Giving
 pub mod Changing
+pub mod Unique

@@ -3,3 +3,4 @@ pub mod Giving
 pub mod Only
 pub mod Outputs
 pub mod Simulating
+pub mod Unique

@@ -1,6 +1,6 @@
 -- How far a reader of a stimulus has come, and what it answers.
-use Rattle.std.specs.Prelude.{◌≡◌, ℕ, suc, List, ◌∷◌, ◌++◌, Option, Result, MatchOption, MatchResult}
-use Rattle.deck.specs.Faults.{told}
+use Rattle.std.specs.Prelude.{◌≡◌, ℕ, suc, List, ◌∷◌, ◌++◌, Option, None, Some, Result, Ok, Err, MatchOption, MatchResult}
+use Rattle.deck.specs.Faults.{Told, told}
 use Rattle.deck.specs.declared.fault.Fault.{Fault}
 use Rattle.stimulus.specs.Rows.{text, Legal}
 use Rattle.stimulus.specs.Tests.{Over, Fails}
@@ -36,6 +36,17 @@ pub record Took (p q : Place) (t : Taken) : Type 0 where
   pub one_more : q.at ≡ suc p.at
   pub same_lines : q.lines ≡ p.lines
   pub phase : q.phase ≡ phase_after t.entry
+
+-- an answer, with its fault as it is told
+abbrev pub answer_of : Result (Option Taken) Fault → Result (Option Taken) Told
+answer_of (Ok taken) = Ok taken
+answer_of (Err f) = Err (told f)
+
+-- what may be answered at a place, and the place then
+abbrev pub Outcome : Place → Result (Option Taken) Told → Place → Type 0
+Outcome p (Ok None) q = Over p.phase p.rest × (q ≡ p)
+Outcome p (Ok (Some t)) q = Took p q t
+Outcome p (Err f) q = Fails p.phase p.lines p.at p.rest f × (q ≡ p)
 
 -- a record is taken, or none is left, or it is told how the next one fails
 abbrev pub Answers : StimulusReader → StimulusReader → Result (Option Taken) Fault → Type 0

@@ -26,11 +26,13 @@ pub struct StimulusReader<'a> {
 }
 
 impl<'a> StimulusReader<'a> {
-    ghost use Rattle.std.specs.Prelude.{◌≡◌, ◌-◌, min, MatchResult};
+    ghost use Rattle.std.specs.Prelude.{◌≡◌, ◌-◌, min, Option, Result, MatchResult};
+    ghost use Rattle.deck.specs.Faults.{Told};
     ghost use Rattle.deck.specs.Records.{Failed};
-    ghost use Rattle.stimulus.specs.Readers.{place, Answers};
+    ghost use Rattle.stimulus.specs.Readers.{Place, place, answer_of, Outcome, Answers};
     ghost use Rattle.stimulus.specs.Rows.{text, Legal};
     ghost use Rattle.stimulus.specs.Tests.{tests};
+    ghost use Rattle.stimulus.specs.declared.entry.Taken.{Taken};
     ghost use Rattle.stimulus.specs.declared.reader.Phase.TheVariants.{Given};
 
     // A reader of a stimulus whose records count on from this number, for a netlist of so many lines. Where they could not be
@@ -82,6 +84,7 @@ impl<'a> StimulusReader<'a> {
     // Takes the next record; there is none once the end was taken and no byte follows. A fault alters nothing.
     pub fn next(&mut self) -> Result<Option<Taken>, Fault>
         ensures answers { Answers self.old self.new result }
+        ensures only { (a : Result (Option Taken) Told) (p : Place) → Outcome (place self.old) a p → (a ≡ answer_of result) × (p ≡ place self.new) }
     {
         if self.phase == Phase::Done && self.rest.is_empty() {
             return Ok(None);

@@ -148,6 +148,7 @@ fn simulate<W: Write>(netlist: Netlist, stimulus: &[u8], out: &mut W) -> io::Res
 // and an error is one of the writer's alone.
 pub fn list<W: Write>(bytes: &[u8], out: &mut W) -> io::Result<()>
     ensures lists { OnOk result ((text : List ℕ) × Listing (take 32768 bytes.now) text × Appends (W.contents out.old) (W.contents out.new) text) }
+    ensures only { (text other : List ℕ) → Listing (take 32768 bytes.now) text → Listing (take 32768 bytes.now) other → text ≡ other }
 {
     let bytes = &bytes[..bytes.len().min(MOST_BYTES)];
     let (outcome, netlist) = read_netlist(bytes);

@@ -30,16 +30,17 @@ impl Scale {
 }
 
 // A row: `_` where the line is 0, `~` where it is 1, `?` where it is not known, `=` where not all lanes are the same, `#`
-// where it changes more than once within a column, and blanks from where the line is not settled.
+// where it changes more than once within a column; it ends where the line is not settled.
 #[derive(Clone, Copy, PartialEq, Eq, Debug)]
 pub struct Row {
     marks: [u8; COLUMNS],
+    drawn: usize,
 }
 
 impl fmt::Display for Row {
     fn fmt<W: fmt::Write>(&self, f: &mut fmt::Formatter<W>) -> fmt::Result {
-        for mark in self.marks {
-            f.write_char(char::from(mark))?;
+        for mark in self.marks.iter().take(self.drawn) {
+            f.write_char(char::from(*mark))?;
         }
         Ok(())
     }
@@ -86,7 +87,10 @@ impl Pen {
 // Draws a line of a session that was not trimmed and whose inputs began with START.
 pub fn draw<V: Shown>(session: &Session<V>, line: u32, scale: Scale) -> Row {
     let LineState { settled, kept } = state(session, line);
-    let mut marks = [b' '; COLUMNS];
+    let mut row = Row {
+        marks: [b' '; COLUMNS],
+        drawn: 0,
+    };
     let mut pen = Pen {
         mark: mark(initial(session, line).level()),
         next: 0,
@@ -96,7 +100,8 @@ pub fn draw<V: Shown>(session: &Session<V>, line: u32, scale: Scale) -> Row {
             break;
         }
         let end = scale.tick(column.saturating_add(1));
-        marks[column] = pen.pass(session, line, kept, end);
+        row.marks[column] = pen.pass(session, line, kept, end);
+        row.drawn = column.saturating_add(1);
     }
-    Row { marks }
+    row
 }

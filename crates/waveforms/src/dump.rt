@@ -4,9 +4,8 @@ use crate::level::{Level, Shown};
 use crate::name::Name;
 use engine::session::Session;
 use std::alloc::Global;
-use std::fmt;
-use std::io;
 use std::io::Write;
+use std::{fmt, io};
 
 // The code that stands for a line in the dump: one or two characters from `!` to `~`.
 #[derive(Clone, Copy)]

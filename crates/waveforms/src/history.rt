@@ -44,7 +44,10 @@ pub fn initial<V: Shown>(session: &Session<V>, line: u32) -> V {
 }
 
 // The changes of all lines, by their ticks and then by lines.
-pub fn changes<V: Shown>(alloc: Global, session: &Session<V>) -> Result<Vec<Change<V>>, AllocError> {
+pub fn changes<V: Shown>(
+    alloc: Global,
+    session: &Session<V>,
+) -> Result<Vec<Change<V>>, AllocError> {
     let mut changes = Vec::new(alloc);
     for line in 1..=lines(session) {
         for k in 0..state(session, line).kept {

@@ -1,0 +1,100 @@
+// The whole work of a job in one value system.
+use crate::carrying::{Cut, carry_out};
+use crate::comparison::{Related, compare_cuts};
+use crate::job::Job;
+use crate::narrator::Narrator;
+use crate::options::Options;
+use crate::report::{list, tell_distances, tell_waves};
+use crate::stop::Stop;
+use engine::session::Session;
+use events::record::EventRecord;
+use std::alloc::{AllocError, Global};
+use std::fs::File;
+use std::io;
+use std::io::{BufWriter, Write};
+use std::rt::Runtime;
+use waveforms::dump;
+use waveforms::level::Shown;
+
+// A store to be lent to a session, which writes it before it reads it.
+pub fn store<V: Shown>(alloc: Global, records: usize) -> Result<Vec<EventRecord<V>>, AllocError> {
+    let blank = EventRecord {
+        tick: 0,
+        value: V::START,
+    };
+    vec![in alloc; blank; records]
+}
+
+// The values that the inputs begin with.
+pub fn starts<V: Shown>(alloc: Global, inputs: usize) -> Result<Vec<V>, AllocError> {
+    vec![in alloc; V::START; inputs]
+}
+
+// Writes the dump of a session to a file.
+fn write_dump<V: Shown, R: Runtime + AllocGlobal>(
+    rt: &R,
+    path: &str,
+    session: &Session<V>,
+) -> io::Result<()> {
+    let mut out = BufWriter::new(rt.alloc(), File::create(rt, path)?)?;
+    dump::write(&mut out, rt.alloc(), session)?;
+    out.flush()
+}
+
+fn dump<V: Shown, R: Runtime + AllocGlobal>(
+    narrator: &Narrator<R>,
+    options: &Options,
+    session: &Session<V>,
+) -> Result<(), Stop> {
+    let Some(path) = &options.dump else {
+        return Ok(());
+    };
+    match write_dump(narrator.rt, path, session) {
+        Ok(()) => Ok(narrator.tell(format_args!("writes the changes of all lines to {path}"))?),
+        Err(error) => Err(Stop::File {
+            path: path.clone()?,
+            action: "written",
+            error,
+        }),
+    }
+}
+
+// Tells what came of the job.
+fn report<V: Shown, R: Runtime + AllocGlobal>(
+    narrator: &Narrator<R>,
+    options: &Options,
+    session: &Session<V>,
+) -> Result<(), Stop> {
+    tell_distances(narrator, session)?;
+    narrator.tell("lists the outputs")?;
+    list(&mut io::writer(narrator.rt), session)?;
+    if !narrator.quiet() {
+        tell_waves(narrator, session)?;
+    }
+    dump(narrator, options, session)
+}
+
+// Does a job, reports, and compares it with the same job done otherwise.
+pub fn work<V: Related, R: Runtime + AllocGlobal>(
+    narrator: &Narrator<R>,
+    job: &Job,
+    options: &Options,
+) -> Result<(), Stop> {
+    let (system, records) = (options.system, options.records);
+    let netlist = job.netlist();
+    let mut store = store::<V>(narrator.alloc(), records)?;
+    let starts = starts::<V>(narrator.alloc(), netlist.inputs())?;
+    Session::check(&netlist, &store, &starts)?;
+    let mut session = Session::make(netlist, &mut store, &starts);
+    let room = session.room();
+    narrator.tell(format_args!(
+        "makes a session: {records} records, room for {room} changes a line"
+    ))?;
+    carry_out(narrator, job, system, Cut::AllFirst, &mut session)?;
+    report(narrator, options, &session)?;
+    if narrator.quiet() {
+        return Ok(());
+    }
+    compare_cuts(narrator, job, system, &session, records)?;
+    V::compare_related(narrator, job, &session, records)
+}

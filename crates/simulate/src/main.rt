@@ -29,6 +29,8 @@ use values::ternary::Ternary;
 fn simulate<R: Runtime + AllocGlobal>(rt: &R, options: &Options) -> Result<(), Stop> {
     let narrator = Narrator::new(rt, options.quiet);
     let bytes = source::read(rt, options)?;
+    let length = bytes.len();
+    narrator.tell(format_args!("reads {length} bytes"))?;
     let job = Job::read(&narrator, &bytes)?;
     match options.system {
         System::Two => work::<Bit, R>(&narrator, &job, options),

@@ -88,7 +88,7 @@ pub fn work<V: Related, R: Runtime + AllocGlobal>(
     let mut session = Session::make(netlist, &mut store, &starts);
     let room = session.room();
     narrator.tell(format_args!(
-        "makes a session: {records} records, room for {room} changes a line"
+        "makes a session: system {system}, {records} records, room for {room} changes a line"
     ))?;
     carry_out(narrator, job, system, Cut::AllFirst, &mut session)?;
     report(narrator, options, &session)?;

@@ -1,0 +1,123 @@
+// The dumps of sessions.
+use super::base::{carry_out, netlist, store};
+use super::examples::{
+    ADDER, ADDER_LISTING, DECODER, DECODER_LISTING, FULL, FULL_LISTING, LATCH, LATCH_LISTING, PULSE,
+    PULSE_LISTING,
+};
+use super::reader::Dump;
+use engine::session::Session;
+use std::alloc::Global;
+use std::test::Fail;
+use values::lanes::Lanes;
+use values::ternary::Ternary;
+use waveforms::dump;
+use waveforms::level::Shown;
+
+const HEAD: &str = "\
+$version Rutskeva $end
+$comment a tick is shown as 1 ns $end
+$timescale 1 ns $end
+$scope module netlist $end
+";
+
+const PULSE_DUMP: &str = "\
+$var wire 1 ! in1 $end
+$var wire 1 \" n2_not $end
+$var wire 1 # n3_and $end
+$scope module outputs $end
+$var wire 1 # out1_n3_and $end
+$upscope $end
+$upscope $end
+$comment in1 is settled up to 20 $end
+$comment n2_not is settled up to 22 $end
+$comment n3_and is settled up to 21 $end
+$enddefinitions $end
+$dumpvars
+x!
+x\"
+x#
+$end
+#0
+0!
+#1
+0#
+#2
+1\"
+#10
+1!
+#11
+1#
+#12
+0\"
+#13
+0#
+#22
+";
+
+const PULSE_IN_LANES: &str = "\
+$var wire 64 ! in1 $end
+$var wire 64 \" n2_not $end
+$var wire 64 # n3_and $end
+$scope module outputs $end
+$var wire 64 # out1_n3_and $end
+$upscope $end
+$upscope $end
+$comment in1 is settled up to 20 $end
+$comment n2_not is settled up to 22 $end
+$comment n3_and is settled up to 21 $end
+$enddefinitions $end
+$dumpvars
+b0 !
+b1111111111111111111111111111111111111111111111111111111111111111 \"
+b0 #
+$end
+#10
+b1111111111111111111111111111111111111111111111111111111111111111 !
+#11
+b1111111111111111111111111111111111111111111111111111111111111111 #
+#12
+b0 \"
+#13
+b0 #
+#22
+";
+
+// The dump of an example in a value system, whose inputs begin with START.
+fn dumped<V: Shown>(alloc: Global, text: &str, start: V) -> Result<String, Fail> {
+    let (used, netlist) = netlist(text);
+    let stimulus = text.get(used?..).ok_or("past the end")?;
+    let starts = vec![in alloc; start; netlist.inputs()]?;
+    let mut store = store::<V>(alloc)?;
+    let mut session = Session::make(netlist, &mut store, &starts);
+    carry_out(&mut session, stimulus.as_bytes())?;
+    let mut bytes = Vec::new(alloc);
+    dump::write(&mut bytes, alloc, &session)?;
+    Ok(String::from_utf8(bytes).map_err(|_| "no text")?)
+}
+
+#[test]
+fn a_dump_is_written_so(rt: HostRuntime) -> Result<(), Fail> {
+    let alloc = rt.alloc();
+    let three = dumped(alloc, PULSE, Ternary::X)?;
+    assert_eq!(rt; three.strip_prefix(HEAD), Some(PULSE_DUMP));
+    let lanes = dumped(alloc, PULSE, Lanes(0))?;
+    assert_eq!(rt; lanes.strip_prefix(HEAD), Some(PULSE_IN_LANES));
+    Ok(())
+}
+
+#[test]
+fn dumps_tell_what_listings_tell(rt: HostRuntime) -> Result<(), Fail> {
+    let table = [
+        (PULSE, PULSE_LISTING),
+        (DECODER, DECODER_LISTING),
+        (LATCH, LATCH_LISTING),
+        (ADDER, ADDER_LISTING),
+        (FULL, FULL_LISTING),
+    ];
+    for (text, listing) in table {
+        let dump = dumped(rt.alloc(), text, Ternary::X)?;
+        let listed = Dump::read(rt.alloc(), &dump)?.listing()?;
+        assert_eq!(rt; listed.as_str(), listing);
+    }
+    Ok(())
+}

@@ -125,6 +125,17 @@ impl Related for Ternary {
     }
 }
 
+// In three values a line may change more often, from X to 0 at first, and there may be no room for that.
+fn without_comparison<R: Print + AllocGlobal>(
+    narrator: &Narrator<R>,
+    stop: Stop,
+) -> Result<(), Stop> {
+    match stop {
+        Stop::Fault(fault) => Ok(narrator.tell(format_args!("compares nothing: {fault}"))?),
+        stop => Err(stop),
+    }
+}
+
 // In three values the inputs and the looped lines begin with X, which stands for the 0 that they begin with here.
 impl Related for Bit {
     fn compare_related<R: Print + AllocGlobal>(
@@ -139,7 +150,9 @@ impl Related for Bit {
         let starts = starts::<Ternary>(narrator.alloc(), netlist.inputs())?;
         Session::check(&netlist, &store, &starts)?;
         let mut other = Session::make(netlist, &mut store, &starts);
-        carry_out(narrator, job, System::Three, Cut::AllFirst, &mut other)?;
+        if let Err(stop) = carry_out(narrator, job, System::Three, Cut::AllFirst, &mut other) {
+            return without_comparison(narrator, stop);
+        }
         let mut tally = Tally::default();
         tally.compare(&StandsFor, &other, session)?;
         tally.tell(narrator)?;

@@ -11,6 +11,9 @@ use waveforms::drawing::{COLUMNS, Scale, draw};
 use waveforms::level::{Level, Shown};
 use waveforms::name::Name;
 
+// The largest count of changes that fits the columns of its row.
+const MOST_COUNTED: usize = 9_999;
+
 // Whether a gate rests before its goal, since there is no room for its line's next change.
 fn is_full<V: Shown>(session: &Session<V>, line: u32) -> Result<bool, Stop> {
     let Some(row) = session.netlist().row(line) else {
@@ -46,6 +49,16 @@ pub fn tell_distances<V: Shown, R: Print + AllocGlobal>(
     Ok(())
 }
 
+// The row of a line; it is longer where a count does not fit its columns.
+fn list_line<W: Write>(out: &mut W, line: u32, state: LineState) -> io::Result<()> {
+    let LineState { settled, kept } = state;
+    if kept <= MOST_COUNTED {
+        out.write_all(&line_row(line, settled, kept))
+    } else {
+        writeln!(out, "L{line:>4}{settled:>10}{kept}")
+    }
+}
+
 // The row of a change; a word stands in hexadecimal where else the letter does.
 fn list_change<V: Shown, W: Write>(out: &mut W, change: EventRecord<V>) -> io::Result<()> {
     let EventRecord { tick, value } = change;
@@ -64,9 +77,9 @@ pub fn list<V: Shown, W: Write>(out: &mut W, session: &Session<V>) -> Result<(),
         let Some(line) = netlist.output(place) else {
             break;
         };
-        let LineState { settled, kept } = session.state(line)?;
-        out.write_all(&line_row(line, settled, kept))?;
-        for k in 0..kept {
+        let state = session.state(line)?;
+        list_line(out, line, state)?;
+        for k in 0..state.kept {
             list_change(out, session.event(line, k)?)?;
         }
     }

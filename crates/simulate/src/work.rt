@@ -67,7 +67,9 @@ fn report<V: Shown, R: Runtime + AllocGlobal>(
 ) -> Result<(), Stop> {
     tell_distances(narrator, session)?;
     narrator.tell("lists the outputs")?;
-    list(&mut io::writer(narrator.rt), session)?;
+    let mut out = BufWriter::new(narrator.alloc(), io::writer(narrator.rt))?;
+    list(&mut out, session)?;
+    out.flush()?;
     if !narrator.quiet() {
         tell_waves(narrator, session)?;
     }

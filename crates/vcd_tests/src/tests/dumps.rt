@@ -1,12 +1,14 @@
 // The dumps of sessions.
 use super::base::{carry_out, netlist, store};
 use super::examples::{
-    ADDER, ADDER_LISTING, DECODER, DECODER_LISTING, FULL, FULL_LISTING, LATCH, LATCH_LISTING, PULSE,
-    PULSE_LISTING,
+    ADDER, ADDER_LISTING, DECODER, DECODER_LISTING, FULL, FULL_LISTING, LATCH, LATCH_LISTING,
+    PULSE, PULSE_LISTING,
 };
 use super::reader::Dump;
-use engine::session::Session;
+use engine::session::{LineState, Session};
+use events::record::EventRecord;
 use std::alloc::Global;
+use std::process::Abort;
 use std::test::Fail;
 use values::lanes::Lanes;
 use values::ternary::Ternary;
@@ -82,25 +84,61 @@ b0 #
 #22
 ";
 
-// The dump of an example in a value system, whose inputs begin with START.
-fn dumped<V: Shown>(alloc: Global, text: &str, start: V) -> Result<String, Fail> {
+// The dump of a session.
+fn dumped<V: Shown>(alloc: Global, session: &Session<V>) -> Result<String, Fail> {
+    let mut bytes = Vec::new(alloc);
+    dump::write(&mut bytes, alloc, session)?;
+    Ok(String::from_utf8(bytes).map_err(|_| "no text")?)
+}
+
+// That the dump tells of each line what the session tells.
+fn compare_lines<V: Shown>(
+    rt: &impl Abort,
+    alloc: Global,
+    session: &Session<V>,
+    dump: &Dump,
+) -> Result<(), Fail> {
+    for (place, variable) in dump
+        .variables
+        .iter()
+        .take(session.netlist().lines())
+        .enumerate()
+    {
+        let line = u32::try_from(place)?.saturating_add(1);
+        let LineState { settled, kept } = session.state(line)?;
+        assert_eq!(rt; dump.settled(&variable.code), Some(settled));
+        assert_eq!(rt; variable.changes.len(), kept, "line {line}");
+        for (k, change) in variable.changes.iter().enumerate() {
+            let EventRecord { tick, value } = session.event(line, k)?;
+            let value = format!(in alloc; "{value}")?;
+            assert_eq!(rt; change.tick, tick);
+            assert_eq!(rt; change.value.to_ascii_uppercase(alloc)?, value);
+        }
+    }
+    Ok(())
+}
+
+// The dump of an example in a value system, whose inputs begin with START; it agrees with the session.
+fn dump_of<V: Shown>(rt: &impl Abort, alloc: Global, text: &str) -> Result<String, Fail> {
     let (used, netlist) = netlist(text);
     let stimulus = text.get(used?..).ok_or("past the end")?;
-    let starts = vec![in alloc; start; netlist.inputs()]?;
+    let starts = vec![in alloc; V::START; netlist.inputs()]?;
     let mut store = store::<V>(alloc)?;
     let mut session = Session::make(netlist, &mut store, &starts);
     carry_out(&mut session, stimulus.as_bytes())?;
-    let mut bytes = Vec::new(alloc);
-    dump::write(&mut bytes, alloc, &session)?;
-    Ok(String::from_utf8(bytes).map_err(|_| "no text")?)
+    let text = dumped(alloc, &session)?;
+    if V::WIDTH == 1 {
+        compare_lines(rt, alloc, &session, &Dump::read(alloc, &text)?)?;
+    }
+    Ok(text)
 }
 
 #[test]
 fn a_dump_is_written_so(rt: HostRuntime) -> Result<(), Fail> {
     let alloc = rt.alloc();
-    let three = dumped(alloc, PULSE, Ternary::X)?;
+    let three = dump_of::<Ternary>(&rt, alloc, PULSE)?;
     assert_eq!(rt; three.strip_prefix(HEAD), Some(PULSE_DUMP));
-    let lanes = dumped(alloc, PULSE, Lanes(0))?;
+    let lanes = dump_of::<Lanes>(&rt, alloc, PULSE)?;
     assert_eq!(rt; lanes.strip_prefix(HEAD), Some(PULSE_IN_LANES));
     Ok(())
 }
@@ -115,7 +153,7 @@ fn dumps_tell_what_listings_tell(rt: HostRuntime) -> Result<(), Fail> {
         (FULL, FULL_LISTING),
     ];
     for (text, listing) in table {
-        let dump = dumped(rt.alloc(), text, Ternary::X)?;
+        let dump = dump_of::<Ternary>(&rt, rt.alloc(), text)?;
         let listed = Dump::read(rt.alloc(), &dump)?.listing()?;
         assert_eq!(rt; listed.as_str(), listing);
     }

@@ -148,7 +148,11 @@ impl Dump {
             let count = variable.changes.len();
             writeln!(text, "L{line:>4}{settled:>10}{count:>4}")?;
             for Change { tick, value } in variable.changes.iter() {
-                writeln!(text, "C{tick:>10} {}", value.to_ascii_uppercase(self.alloc)?)?;
+                writeln!(
+                    text,
+                    "C{tick:>10} {}",
+                    value.to_ascii_uppercase(self.alloc)?
+                )?;
             }
         }
         Ok(text)

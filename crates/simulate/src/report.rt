@@ -55,7 +55,7 @@ fn list_line<W: Write>(out: &mut W, line: u32, state: LineState) -> io::Result<(
     if kept <= MOST_COUNTED {
         out.write_all(&line_row(line, settled, kept))
     } else {
-        writeln!(out, "L{line:>4}{settled:>10}{kept}")
+        writeln!(out, "L{line:>4}{settled:>10} {kept}")
     }
 }
 

@@ -81,8 +81,9 @@ fn tell_settled<V: Shown, W: Write>(out: &mut W, session: &Session<V>) -> io::Re
     Ok(())
 }
 
-// The values of all lines before tick 0.
+// The values of all lines before tick 0, told at time 0 as a dump begins there.
 fn begin<V: Shown, W: Write>(out: &mut W, session: &Session<V>) -> io::Result<()> {
+    writeln!(out, "#0")?;
     writeln!(out, "$dumpvars")?;
     for line in 1..=lines(session) {
         let code = Code { line };
@@ -98,10 +99,10 @@ fn tell_changes<V: Shown, W: Write>(
     alloc: Global,
     session: &Session<V>,
 ) -> io::Result<()> {
-    let mut now = None;
+    let mut now = 0;
     for change in changes(alloc, session)?.iter() {
-        if now != Some(change.tick) {
-            now = Some(change.tick);
+        if now != change.tick {
+            now = change.tick;
             writeln!(out, "#{}", change.tick)?;
         }
         let code = Code { line: change.line };

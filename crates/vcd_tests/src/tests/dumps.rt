@@ -7,6 +7,7 @@ use super::examples::{
 use super::reader::Dump;
 use engine::session::{LineState, Session};
 use events::record::EventRecord;
+use netlist::refusal::Refusal;
 use std::alloc::Global;
 use std::process::Abort;
 use std::test::Fail;
@@ -34,12 +35,12 @@ $comment in1 is settled up to 20 $end
 $comment n2_not is settled up to 22 $end
 $comment n3_and is settled up to 21 $end
 $enddefinitions $end
+#0
 $dumpvars
 x!
 x\"
 x#
 $end
-#0
 0!
 #1
 0#
@@ -68,6 +69,7 @@ $comment in1 is settled up to 20 $end
 $comment n2_not is settled up to 22 $end
 $comment n3_and is settled up to 21 $end
 $enddefinitions $end
+#0
 $dumpvars
 b0 !
 b1111111111111111111111111111111111111111111111111111111111111111 \"
@@ -91,6 +93,14 @@ fn dumped<V: Shown>(alloc: Global, session: &Session<V>) -> Result<String, Fail>
     Ok(String::from_utf8(bytes).map_err(|_| "no text")?)
 }
 
+// The value of a line before tick 0: a gate keeps it at tick 0.
+fn first<V: Shown>(session: &Session<V>, line: u32) -> Result<V, Refusal> {
+    if line as usize <= session.netlist().inputs() {
+        return Ok(V::START);
+    }
+    session.value(line, 0)
+}
+
 // That the dump tells of each line what the session tells.
 fn compare_lines<V: Shown>(
     rt: &impl Abort,
@@ -106,6 +116,10 @@ fn compare_lines<V: Shown>(
     {
         let line = u32::try_from(place)?.saturating_add(1);
         let LineState { settled, kept } = session.state(line)?;
+        let first = first(session, line)?;
+        let first = format!(in alloc; "{first}")?;
+        let read = variable.first.as_ref().ok_or("no value at first")?;
+        assert_eq!(rt; read.to_ascii_uppercase(alloc)?, first);
         assert_eq!(rt; dump.settled(&variable.code), Some(settled));
         assert_eq!(rt; variable.changes.len(), kept, "line {line}");
         for (k, change) in variable.changes.iter().enumerate() {

@@ -27,12 +27,14 @@ pub struct Settled {
     pub tick: u32,
 }
 
+// What was read so far: the time, and whether the values at first are told.
 #[derive(Debug, Drop)]
 pub struct Dump {
     alloc: Global,
     pub variables: Vec<Variable>,
     pub settled: Vec<Settled>,
-    pub now: Option<u32>,
+    now: u32,
+    begins: bool,
 }
 
 // The parts of a line that gives a value: the value, and the code of the variable.
@@ -54,7 +56,8 @@ impl Dump {
             alloc,
             variables: Vec::new(alloc),
             settled: Vec::new(alloc),
-            now: None,
+            now: 0,
+            begins: false,
         }
     }
 
@@ -84,9 +87,11 @@ impl Dump {
                 continue;
             }
             let value = String::from_str(self.alloc, value)?;
-            match self.now {
-                None => variable.first = Some(value),
-                Some(tick) => variable.changes.push(Change { tick, value })?,
+            if self.begins {
+                variable.first = Some(value);
+            } else {
+                let tick = self.now;
+                variable.changes.push(Change { tick, value })?;
             }
         }
         Ok(())
@@ -95,7 +100,7 @@ impl Dump {
     // Reads a line. One that it does not know alters nothing.
     fn line(&mut self, line: &str) -> Result<(), Fail> {
         if let Some(tick) = line.strip_prefix('#') {
-            self.now = Some(tick.parse()?);
+            self.now = tick.parse()?;
             return Ok(());
         }
         let words: Vec<&str> = line.split_whitespace().collect(self.alloc)?;
@@ -104,6 +109,8 @@ impl Dump {
             ["$comment", name, "is", "settled", "up", "to", tick, "$end"] => {
                 self.settle(name, tick)?;
             }
+            ["$dumpvars"] => self.begins = true,
+            ["$end"] => self.begins = false,
             _ => {
                 if let Some((value, code)) = parts(line) {
                     self.assign(code, value)?;

@@ -1,7 +1,6 @@
 // A job as a session does it.
 use crate::job::Job;
 use crate::narrator::Narrator;
-use crate::options::System;
 use crate::source::MOST_BYTES;
 use crate::stop::Stop;
 use deck::fault::{Fault, Layer};
@@ -26,16 +25,11 @@ const FEW: u32 = 2;
 const MANY: u32 = 1_000_000;
 
 // Gives what a record says.
-fn give<V: Shown>(
-    session: &mut Session<V>,
-    system: System,
-    record: usize,
-    entry: Entry,
-) -> Result<(), Stop> {
+fn give<V: Shown>(session: &mut Session<V>, record: usize, entry: Entry) -> Result<(), Stop> {
     let given = match entry {
         Entry::Feed { line, tick, value } => match V::named(value) {
             Some(value) => session.feed(line, tick, value),
-            None => return Err(Stop::Unnamed { record, system }),
+            None => return Err(Stop::Unnamed { record }),
         },
         Entry::Hold { line, tick } => session.hold(line, tick),
         Entry::End => Ok(()),
@@ -114,7 +108,6 @@ fn take_last<V: Shown, R: Print + AllocGlobal>(
 pub fn carry_out<V: Shown, R: Print + AllocGlobal>(
     narrator: &Narrator<R>,
     job: &Job,
-    system: System,
     cut: Cut,
     session: &mut Session<V>,
 ) -> Result<(), Stop> {
@@ -124,7 +117,7 @@ pub fn carry_out<V: Shown, R: Print + AllocGlobal>(
             break;
         };
         let record = stimulus.records();
-        give(session, system, record, entry)?;
+        give(session, record, entry)?;
         tell_given(narrator, session, record, entry)?;
         if cut == Cut::Pieces {
             take_last(narrator, session)?;

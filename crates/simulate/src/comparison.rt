@@ -1,10 +1,9 @@
 // A session compared with others that do the same job.
 use crate::carrying::{Cut, carry_out};
+use crate::desk::Desk;
 use crate::job::Job;
 use crate::narrator::Narrator;
-use crate::options::System;
 use crate::stop::Stop;
-use crate::work::{starts, store};
 use engine::session::Session;
 use netlist::refusal::Refusal;
 use std::io;
@@ -22,19 +21,14 @@ use waveforms::level::Shown;
 pub fn compare_cuts<V: Shown, R: Print + AllocGlobal>(
     narrator: &Narrator<R>,
     job: &Job,
-    system: System,
     session: &Session<V>,
-    records: usize,
 ) -> Result<(), Stop> {
     narrator.tell(
         "does the job again: after each record takes the last gate that can be taken, and runs 2",
     )?;
-    let netlist = job.netlist();
-    let mut store = store::<V>(narrator.alloc(), records)?;
-    let starts = starts::<V>(narrator.alloc(), netlist.inputs())?;
-    Session::check(&netlist, &store, &starts)?;
-    let mut other = Session::make(netlist, &mut store, &starts);
-    carry_out(narrator, job, system, Cut::Pieces, &mut other)?;
+    let mut desk = Desk::<V>::new(narrator.rt.alloc(), job)?;
+    let mut other = desk.session(job);
+    carry_out(narrator, job, Cut::Pieces, &mut other)?;
     if session.same_store(&other) {
         narrator.tell("compares both: their stores are the same, as they must be")?;
     } else {
@@ -110,7 +104,6 @@ pub trait Related: Shown {
         narrator: &Narrator<R>,
         job: &Job,
         session: &Session<Self>,
-        records: usize,
     ) -> Result<(), Stop>;
 }
 
@@ -119,7 +112,6 @@ impl Related for Ternary {
         _narrator: &Narrator<R>,
         _job: &Job,
         _session: &Session<Self>,
-        _records: usize,
     ) -> Result<(), Stop> {
         Ok(())
     }
@@ -142,15 +134,11 @@ impl Related for Bit {
         narrator: &Narrator<R>,
         job: &Job,
         session: &Session<Self>,
-        records: usize,
     ) -> Result<(), Stop> {
         narrator.tell("does the job in three values, X at first")?;
-        let netlist = job.netlist();
-        let mut store = store::<Ternary>(narrator.alloc(), records)?;
-        let starts = starts::<Ternary>(narrator.alloc(), netlist.inputs())?;
-        Session::check(&netlist, &store, &starts)?;
-        let mut other = Session::make(netlist, &mut store, &starts);
-        if let Err(stop) = carry_out(narrator, job, System::Three, Cut::AllFirst, &mut other) {
+        let mut desk = Desk::<Ternary>::new(narrator.rt.alloc(), job)?;
+        let mut other = desk.session(job);
+        if let Err(stop) = carry_out(narrator, job, Cut::AllFirst, &mut other) {
             return without_comparison(narrator, stop);
         }
         let mut tally = Tally::default();
@@ -166,15 +154,11 @@ impl Related for Lanes {
         narrator: &Narrator<R>,
         job: &Job,
         session: &Session<Self>,
-        records: usize,
     ) -> Result<(), Stop> {
         narrator.tell("does the job in two values, to compare it with each lane")?;
-        let netlist = job.netlist();
-        let mut store = store::<Bit>(narrator.alloc(), records)?;
-        let starts = starts::<Bit>(narrator.alloc(), netlist.inputs())?;
-        Session::check(&netlist, &store, &starts)?;
-        let mut other = Session::make(netlist, &mut store, &starts);
-        carry_out(narrator, job, System::Two, Cut::AllFirst, &mut other)?;
+        let mut desk = Desk::<Bit>::new(narrator.rt.alloc(), job)?;
+        let mut other = desk.session(job);
+        carry_out(narrator, job, Cut::AllFirst, &mut other)?;
         let mut tally = Tally::default();
         for place in 0..64 {
             if let Some(lane) = Lane::new(place) {

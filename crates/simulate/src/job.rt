@@ -3,25 +3,27 @@ use crate::narrator::Narrator;
 use crate::source::MOST_BYTES;
 use crate::stop::Stop;
 use deck::closing::{check_reached, read_netlist};
-use deck::entry::Entry;
+use deck::entry::{Entry, Taken};
 use deck::reader::DeckReader;
 use netlist::closed::Netlist;
 use netlist::draft::Draft;
 use std::io;
 use stimulus::reader::StimulusReader;
 
-// The bytes of the deck, and a reader that stands before the first record of the stimulus.
+// The bytes of the deck, a reader that stands before the first record of the stimulus, and how many records the store of a
+// session has.
 #[derive(Clone, Copy)]
 pub struct Job<'b> {
     bytes: &'b [u8],
     pub stimulus: StimulusReader<'b>,
+    pub records: usize,
 }
 
-// A deck that was taken record by record: its draft, its records, and the bytes after it.
+// A deck that was taken record by record: its draft, how many records were taken, and the bytes after it.
 #[derive(Drop)]
-struct Taken<'b> {
+struct DeckTaken<'b> {
     draft: Draft,
-    records: usize,
+    taken: usize,
     rest: &'b [u8],
 }
 
@@ -29,23 +31,22 @@ struct Taken<'b> {
 fn take_deck<'b, R: Print + AllocGlobal>(
     narrator: &Narrator<R>,
     bytes: &'b [u8],
-) -> Result<Taken<'b>, Stop> {
+) -> Result<DeckTaken<'b>, Stop> {
     let mut reader = DeckReader::new();
-    let mut records = 0;
+    let mut taken = 0;
     let mut rest = bytes;
     for number in 1..MOST_BYTES {
-        let taken = reader.next(rest)?;
-        let entry = taken.entry;
+        let Taken { entry, bytes } = reader.next(rest)?;
         narrator.tell(format_args!("record {number}: {entry}"))?;
-        records = number;
-        rest = rest.get(taken.bytes..).unwrap_or(&[]);
+        taken = number;
+        rest = rest.get(bytes..).unwrap_or(&[]);
         if let Entry::End = entry {
             break;
         }
     }
-    Ok(Taken {
+    Ok(DeckTaken {
         draft: reader.finish(),
-        records,
+        taken,
         rest,
     })
 }
@@ -63,16 +64,17 @@ impl<'b> Job<'b> {
     pub fn read<R: Print + AllocGlobal>(
         narrator: &Narrator<R>,
         bytes: &'b [u8],
+        records: usize,
     ) -> Result<Job<'b>, Stop> {
-        let Taken {
-            draft,
-            records,
-            rest,
-        } = take_deck(narrator, bytes)?;
+        let DeckTaken { draft, taken, rest } = take_deck(narrator, bytes)?;
         check_reached(&draft)?;
-        let stimulus = StimulusReader::new(rest, records, draft.lines());
+        let stimulus = StimulusReader::new(rest, taken, draft.lines());
         tell_closed(narrator, draft)?;
-        Ok(Job { bytes, stimulus })
+        Ok(Job {
+            bytes,
+            stimulus,
+            records,
+        })
     }
 
     // The netlist, anew for each session.

@@ -4,6 +4,7 @@
 
 mod carrying;
 mod comparison;
+mod desk;
 mod explanation;
 mod job;
 mod narrator;
@@ -31,7 +32,7 @@ fn simulate<R: Runtime + AllocGlobal>(rt: &R, options: &Options) -> Result<(), S
     let bytes = source::read(rt, options)?;
     let length = bytes.len();
     narrator.tell(format_args!("reads {length} bytes"))?;
-    let job = Job::read(&narrator, &bytes)?;
+    let job = Job::read(&narrator, &bytes, options.records)?;
     match options.system {
         System::Two => work::<Bit, R>(&narrator, &job, options),
         System::Three => work::<Ternary, R>(&narrator, &job, options),
@@ -51,28 +52,29 @@ fn tell<R: Runtime>(rt: &R, quiet: bool, stop: &Stop) -> io::Result<()> {
     io::writer(rt).write_all(&fault.row())
 }
 
-fn run<R: Runtime + AllocGlobal>(rt: &R) -> Result<(), ExitCode> {
-    let options = match options::read(rt) {
-        Ok(options) => options,
-        Err(stop) => {
-            let _ = tell(rt, false, &stop);
-            return Err(ExitCode::FAILURE);
-        }
-    };
-    let done = if options.help {
-        rt.print(HELP).map_err(Stop::from)
+// Does what the options say.
+fn run<R: Runtime + AllocGlobal>(rt: &R, options: &Options) -> Result<(), Stop> {
+    if options.help {
+        Ok(rt.print(HELP)?)
     } else {
-        simulate(rt, &options)
-    };
-    done.map_err(|stop| {
-        let _ = tell(rt, options.quiet, &stop);
-        ExitCode::FAILURE
-    })
+        simulate(rt, options)
+    }
+}
+
+// The status of the program, after telling why it ends early if it does.
+fn end<R: Runtime>(rt: &R, quiet: bool, done: Result<(), Stop>) -> ExitCode {
+    match done {
+        Ok(()) => ExitCode::SUCCESS,
+        Err(stop) => {
+            let _ = tell(rt, quiet, &stop);
+            ExitCode::FAILURE
+        }
+    }
 }
 
 fn main(rt: HostRuntime) -> ExitCode {
-    match run(&rt) {
-        Ok(()) => ExitCode::SUCCESS,
-        Err(code) => code,
+    match options::read(&rt) {
+        Ok(options) => end(&rt, options.quiet, run(&rt, &options)),
+        Err(stop) => end(&rt, false, Err(stop)),
     }
 }

@@ -1,5 +1,4 @@
 // What tells each action as it is taken.
-use std::alloc::Global;
 use std::fmt::Display;
 use std::io;
 
@@ -7,20 +6,12 @@ use std::io;
 #[derive(Drop)]
 pub struct Narrator<'r, R> {
     pub rt: &'r R,
-    quiet: bool,
+    pub quiet: bool,
 }
 
 impl<'r, R: Print + AllocGlobal> Narrator<'r, R> {
     pub fn new(rt: &'r R, quiet: bool) -> Narrator<'r, R> {
         Narrator { rt, quiet }
-    }
-
-    pub fn quiet(&self) -> bool {
-        self.quiet
-    }
-
-    pub fn alloc(&self) -> Global {
-        self.rt.alloc()
     }
 
     pub fn tell<D: Display + Drop>(&self, line: D) -> io::Result<()> {

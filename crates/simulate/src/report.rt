@@ -94,7 +94,7 @@ fn tell_row<V: Shown, R: Print + AllocGlobal>(
     scale: Scale,
 ) -> Result<(), Stop> {
     let name = Name::of(session.netlist(), line);
-    let name = format!(in narrator.alloc(); "{name}")?;
+    let name = format!(in narrator.rt.alloc(); "{name}")?;
     let row = draw(session, line, scale);
     narrator.tell(format_args!("{name:>10} {row}"))?;
     Ok(())
@@ -109,7 +109,10 @@ pub fn tell_waves<V: Shown, R: Print + AllocGlobal>(
     let scale = Scale::fitting(session);
     let ticks = scale.ticks;
     let (middle, last) = (scale.tick(COLUMNS / 2), scale.tick(COLUMNS));
-    narrator.tell(format_args!("draws the inputs and the outputs, ticks a column: {ticks}"))?;
+    narrator.tell(
+        "draws the inputs and the outputs: _ is 0, ~ is 1, ? is X, # is several changes",
+    )?;
+    narrator.tell(format_args!("ticks a column: {ticks}"))?;
     narrator.tell(format_args!("{:>10} {:<30}{middle:<22}{last:>8}", "tick", 0))?;
     for line in 1..=netlist.inputs() as u32 {
         tell_row(narrator, session, line, scale)?;

@@ -1,5 +1,5 @@
 // Why the program ends early.
-use crate::options::{Misuse, System};
+use crate::options::Misuse;
 use deck::fault::Fault;
 use netlist::refusal::Refusal;
 use std::alloc::AllocError;
@@ -18,10 +18,9 @@ pub enum Stop {
     },
     #[error("{0}")]
     Fault(#[from] Fault),
-    #[error("record {record} feeds X, which is no value of --system {system}")]
+    #[error("record {record} feeds X, which only --system three has")]
     Unnamed {
         record: usize,
-        system: System,
     },
     #[error("refused: {}", crate::explanation::of(*.0))]
     Session(#[from] Refusal),

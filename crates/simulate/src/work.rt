@@ -1,34 +1,19 @@
 // The whole work of a job in one value system.
 use crate::carrying::{Cut, carry_out};
 use crate::comparison::{Related, compare_cuts};
+use crate::desk::Desk;
 use crate::job::Job;
 use crate::narrator::Narrator;
 use crate::options::Options;
 use crate::report::{list, tell_distances, tell_waves};
 use crate::stop::Stop;
 use engine::session::Session;
-use events::record::EventRecord;
-use std::alloc::{AllocError, Global};
 use std::fs::File;
 use std::io;
 use std::io::{BufWriter, Write};
 use std::rt::Runtime;
 use waveforms::dump;
 use waveforms::level::Shown;
-
-// A store to be lent to a session, which writes it before it reads it.
-pub fn store<V: Shown>(alloc: Global, records: usize) -> Result<Vec<EventRecord<V>>, AllocError> {
-    let blank = EventRecord {
-        tick: 0,
-        value: V::START,
-    };
-    vec![in alloc; blank; records]
-}
-
-// The values that the inputs begin with.
-pub fn starts<V: Shown>(alloc: Global, inputs: usize) -> Result<Vec<V>, AllocError> {
-    vec![in alloc; V::START; inputs]
-}
 
 // Writes the dump of a session to a file.
 fn write_dump<V: Shown, R: Runtime + AllocGlobal>(
@@ -41,7 +26,8 @@ fn write_dump<V: Shown, R: Runtime + AllocGlobal>(
     out.flush()
 }
 
-fn dump<V: Shown, R: Runtime + AllocGlobal>(
+// Saves the dump of a session where the options tell a path for it.
+fn save_dump<V: Shown, R: Runtime + AllocGlobal>(
     narrator: &Narrator<R>,
     options: &Options,
     session: &Session<V>,
@@ -67,13 +53,13 @@ fn report<V: Shown, R: Runtime + AllocGlobal>(
 ) -> Result<(), Stop> {
     tell_distances(narrator, session)?;
     narrator.tell("lists the outputs")?;
-    let mut out = BufWriter::new(narrator.alloc(), io::writer(narrator.rt))?;
+    let mut out = BufWriter::new(narrator.rt.alloc(), io::writer(narrator.rt))?;
     list(&mut out, session)?;
     out.flush()?;
-    if !narrator.quiet() {
+    if !narrator.quiet {
         tell_waves(narrator, session)?;
     }
-    dump(narrator, options, session)
+    save_dump(narrator, options, session)
 }
 
 // Does a job, reports, and compares it with the same job done otherwise.
@@ -82,21 +68,18 @@ pub fn work<V: Related, R: Runtime + AllocGlobal>(
     job: &Job,
     options: &Options,
 ) -> Result<(), Stop> {
-    let (system, records) = (options.system, options.records);
-    let netlist = job.netlist();
-    let mut store = store::<V>(narrator.alloc(), records)?;
-    let starts = starts::<V>(narrator.alloc(), netlist.inputs())?;
-    Session::check(&netlist, &store, &starts)?;
-    let mut session = Session::make(netlist, &mut store, &starts);
-    let room = session.room();
+    let mut desk = Desk::<V>::new(narrator.rt.alloc(), job)?;
+    let mut session = desk.session(job);
+    let system = options.system;
+    let (records, room) = (job.records, session.room());
     narrator.tell(format_args!(
         "makes a session: system {system}, {records} records, room for {room} changes a line"
     ))?;
-    carry_out(narrator, job, system, Cut::AllFirst, &mut session)?;
+    carry_out(narrator, job, Cut::AllFirst, &mut session)?;
     report(narrator, options, &session)?;
-    if narrator.quiet() {
+    if narrator.quiet {
         return Ok(());
     }
-    compare_cuts(narrator, job, system, &session, records)?;
-    V::compare_related(narrator, job, &session, records)
+    compare_cuts(narrator, job, &session)?;
+    V::compare_related(narrator, job, &session)
 }

@@ -19,7 +19,7 @@ pub fn of(refusal: Refusal) -> &'static str {
         Refusal::Past => "the tick is below what the line was given already",
         Refusal::Late => "the tick is beyond the last that can be given",
         Refusal::Unsettled => "the line is not settled there",
-        Refusal::Full => "there is no room for another change of the line",
+        Refusal::Full => "there is no room for another change of the line (--store keeps more)",
         Refusal::Idle => "the gate's front is at its goal",
         Refusal::None => "there is no such change",
     }

@@ -18,7 +18,7 @@ use crate::job::Job;
 use crate::narrator::Narrator;
 use crate::options::{HELP, Options, System};
 use crate::stop::Stop;
-use crate::work::work;
+use crate::work::do_job;
 use std::io;
 use std::io::Write;
 use std::process::ExitCode;
@@ -34,9 +34,9 @@ fn simulate<R: Runtime + AllocGlobal>(rt: &R, options: &Options) -> Result<(), S
     narrator.tell(format_args!("reads {length} bytes"))?;
     let job = Job::read(&narrator, &bytes, options.records)?;
     match options.system {
-        System::Two => work::<Bit, R>(&narrator, &job, options),
-        System::Three => work::<Ternary, R>(&narrator, &job, options),
-        System::Lanes => work::<Lanes, R>(&narrator, &job, options),
+        System::Two => do_job::<Bit, R>(&narrator, &job, options),
+        System::Three => do_job::<Ternary, R>(&narrator, &job, options),
+        System::Lanes => do_job::<Lanes, R>(&narrator, &job, options),
     }
 }
 

@@ -63,7 +63,7 @@ fn report<V: Shown, R: Runtime + AllocGlobal>(
 }
 
 // Does a job, reports, and compares it with the same job done otherwise.
-pub fn work<V: Related, R: Runtime + AllocGlobal>(
+pub fn do_job<V: Related, R: Runtime + AllocGlobal>(
     narrator: &Narrator<R>,
     job: &Job,
     options: &Options,

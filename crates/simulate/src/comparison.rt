@@ -1,55 +1,171 @@
-// Two sessions in two value systems, compared by a relation.
-use crate::decoder::LINES;
+// A session compared with others that do the same job.
+use crate::carrying::{Cut, carry_out};
+use crate::desk::Desk;
+use crate::job::Job;
+use crate::narrator::Narrator;
+use crate::stop::Stop;
 use engine::session::Session;
 use netlist::refusal::Refusal;
 use std::io;
+use values::bit::Bit;
+use values::lane::Lane;
+use values::lanes::Lanes;
 use values::relation::Relation;
+use values::stands_for::StandsFor;
 use values::system::ValueSystem;
+use values::ternary::Ternary;
+use waveforms::level::Shown;
+
+// Does the job again in another store, cut and ordered otherwise, and compares the stores: of sessions that are given alike
+// they must be equal at rest.
+pub fn compare_cuts<V: Shown, R: Print + AllocGlobal>(
+    narrator: &Narrator<R>,
+    job: &Job,
+    session: &Session<V>,
+) -> Result<(), Stop> {
+    narrator.tell(
+        "does the job again: after each record takes the last gate that can be taken, and runs 2",
+    )?;
+    let mut desk = Desk::<V>::new(narrator.rt.alloc(), job)?;
+    let mut other = desk.session(job);
+    carry_out(narrator, job, Cut::Pieces, &mut other)?;
+    if session.same_store(&other) {
+        narrator.tell("compares both: their stores are the same, as they must be")?;
+    } else {
+        narrator.tell("compares both: their stores differ, which must not be")?;
+    }
+    Ok(())
+}
 
 // How many values of lines were compared, and how many of them are tied.
 #[derive(Clone, Copy, Default)]
-pub struct Comparison {
-    compared: u32,
-    tied: u32,
+struct Tally {
+    compared: u64,
+    tied: u64,
 }
 
-impl Comparison {
+impl Tally {
     fn note(&mut self, tied: bool) {
         self.compared = self.compared.saturating_add(1);
-        self.tied = self.tied.saturating_add(tied as u32);
+        self.tied = self.tied.saturating_add(tied as u64);
     }
 
-    // The values of a line at all ticks at which both sessions tell them.
-    fn compare_line<V: ValueSystem, W: ValueSystem, R: Relation<V, W>>(
+    // The values of a line at tick 0, and where it changes in one of the sessions; in between both keep theirs.
+    fn compare_line<V: ValueSystem, W: ValueSystem, L: Relation<V, W>>(
         &mut self,
-        relation: &R,
+        relation: &L,
         left: &Session<V>,
         right: &Session<W>,
         line: u32,
     ) -> Result<(), Refusal> {
-        let begin = left.trim_tick().max(right.trim_tick());
-        let end = left.state(line)?.settled.min(right.state(line)?.settled);
-        for tick in begin..end {
-            self.note(left.tied(relation, right, line, tick)?);
+        let (seen, other) = (left.state(line)?, right.state(line)?);
+        let end = seen.settled.min(other.settled);
+        if end > 0 {
+            self.note(left.tied(relation, right, line, 0)?);
+        }
+        for k in 0..seen.kept {
+            let tick = left.event(line, k)?.tick;
+            if tick < end {
+                self.note(left.tied(relation, right, line, tick)?);
+            }
+        }
+        for k in 0..other.kept {
+            let tick = right.event(line, k)?.tick;
+            if tick < end {
+                self.note(left.tied(relation, right, line, tick)?);
+            }
         }
         Ok(())
     }
 
     // The values of all lines.
-    pub fn compare<V: ValueSystem, W: ValueSystem, R: Relation<V, W>>(
+    fn compare<V: ValueSystem, W: ValueSystem, L: Relation<V, W>>(
         &mut self,
-        relation: &R,
+        relation: &L,
         left: &Session<V>,
         right: &Session<W>,
     ) -> Result<(), Refusal> {
-        for line in 1..=LINES {
-            self.compare_line(relation, left, right, line as u32)?;
+        let lines = left.netlist().lines() as u32;
+        for line in 1..=lines {
+            self.compare_line(relation, left, right, line)?;
         }
         Ok(())
     }
 
-    pub fn print(self, rt: &impl Print) -> io::Result<()> {
-        let Comparison { compared, tied } = self;
-        println!(rt; "compares both sessions in the lane: {compared} values, {tied} of them tied")
+    fn tell<R: Print + AllocGlobal>(self, narrator: &Narrator<R>) -> io::Result<()> {
+        let Tally { compared, tied } = self;
+        narrator.tell(format_args!("compares both: {compared} values, {tied} of them tied"))
+    }
+}
+
+// A value system whose sessions are compared with one in a related system, if there is one.
+pub trait Related: Shown {
+    fn compare_related<R: Print + AllocGlobal>(
+        narrator: &Narrator<R>,
+        job: &Job,
+        session: &Session<Self>,
+    ) -> Result<(), Stop>;
+}
+
+impl Related for Ternary {
+    fn compare_related<R: Print + AllocGlobal>(
+        _narrator: &Narrator<R>,
+        _job: &Job,
+        _session: &Session<Self>,
+    ) -> Result<(), Stop> {
+        Ok(())
+    }
+}
+
+// In three values a line may change more often, from X to 0 at first, and there may be no room for that.
+fn without_comparison<R: Print + AllocGlobal>(
+    narrator: &Narrator<R>,
+    stop: Stop,
+) -> Result<(), Stop> {
+    match stop {
+        Stop::Fault(fault) => Ok(narrator.tell(format_args!("compares nothing: {fault}"))?),
+        stop => Err(stop),
+    }
+}
+
+// In three values the inputs and the looped lines begin with X, which stands for the 0 that they begin with here.
+impl Related for Bit {
+    fn compare_related<R: Print + AllocGlobal>(
+        narrator: &Narrator<R>,
+        job: &Job,
+        session: &Session<Self>,
+    ) -> Result<(), Stop> {
+        narrator.tell("does the job in three values, X at first")?;
+        let mut desk = Desk::<Ternary>::new(narrator.rt.alloc(), job)?;
+        let mut other = desk.session(job);
+        if let Err(stop) = carry_out(narrator, job, Cut::AllFirst, &mut other) {
+            return without_comparison(narrator, stop);
+        }
+        let mut tally = Tally::default();
+        tally.compare(&StandsFor, &other, session)?;
+        tally.tell(narrator)?;
+        Ok(())
+    }
+}
+
+// Each lane does the job in two values.
+impl Related for Lanes {
+    fn compare_related<R: Print + AllocGlobal>(
+        narrator: &Narrator<R>,
+        job: &Job,
+        session: &Session<Self>,
+    ) -> Result<(), Stop> {
+        narrator.tell("does the job in two values, to compare it with each lane")?;
+        let mut desk = Desk::<Bit>::new(narrator.rt.alloc(), job)?;
+        let mut other = desk.session(job);
+        carry_out(narrator, job, Cut::AllFirst, &mut other)?;
+        let mut tally = Tally::default();
+        for place in 0..64 {
+            if let Some(lane) = Lane::new(place) {
+                tally.compare(&lane, session, &other)?;
+            }
+        }
+        tally.tell(narrator)?;
+        Ok(())
     }
 }

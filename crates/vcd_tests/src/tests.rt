@@ -1,0 +1,6 @@
+// The tests by their subject.
+mod base;
+mod drawings;
+mod dumps;
+mod examples;
+mod reader;

@@ -7,6 +7,7 @@ use Rattle.std.proofs.lemmas.Option.{get_or_from_slice_get}
 use Rattle.engine.specs.Answers.{Eventful, Stated}
 use Rattle.semantics.specs.Accounts.{Account, settled, value, Stable}
 use Rattle.semantics.specs.Changes.{AtMost}
+use Rattle.semantics.specs.Distances.{Distance}
 use Rattle.semantics.specs.Machines.{Machine, IsLine}
 use Rattle.semantics.proofs.Listing.{one_list}
 use Rattle.values.specs.declared.ternary.Ternary.{Ternary}
@@ -42,9 +43,10 @@ module _ (s : Machine Ternary) (a : Account Ternary) (n : ℕ) where
   state_there _ (Stated.no_line none) a_line = none a_line
 
   -- the rows of a line, where its changes fit into the room
-  pub rows_of_line : (to kept : ℕ) (state : State to kept) → n < 10 ^ 4 → settled s.topology a n < 10 ^ 10 → AtMost s.room (Stable s a n) a.trim (settled s.topology a n) → s.room < 10 ^ 4 → LineRows s a n (line_row n to kept ++ change_rows s a n state.ticks)
-  rows_of_line to kept state narrow early fits small = record {
+  pub rows_of_line : (to kept : ℕ) (state : State to kept) → Distance s a n (settled s.topology a n) → n < 10 ^ 4 → settled s.topology a n < 10 ^ 10 → AtMost s.room (Stable s a n) a.trim (settled s.topology a n) → s.room < 10 ^ 4 → LineRows s a n (line_row n to kept ++ change_rows s a n state.ticks)
+  rows_of_line to kept state distance narrow early fits small = record {
     ticks = state.ticks;
+    distance = distance;
     kept = state.contents.kept;
     fit = (narrow, early, let same = ap length (one_list fits.changes state.contents.kept) in omega (arith, fits.few));
     are = ap₂ (λ x k. line_row n x k ++ change_rows s a n state.ticks) state.settled_to (sym state.contents.so_many);

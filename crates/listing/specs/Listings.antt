@@ -8,6 +8,7 @@ use Rattle.semantics.specs.Accounts.{Account, settled, value, KeptChanges}
 use Rattle.semantics.specs.Circuits.{lines}
 use Rattle.semantics.specs.CircuitMachine.{machine}
 use Rattle.semantics.specs.Comparisons.{Alike}
+use Rattle.semantics.specs.Distances.{Distance}
 use Rattle.semantics.specs.Logs.{Log}
 use Rattle.semantics.specs.Machines.{Machine}
 use Rattle.semantics.specs.Moves.{made, Rest}
@@ -30,10 +31,11 @@ module _ (s : Machine Ternary) (a : Account Ternary) where
   abbrev pub change_rows : ℕ → List ℕ → List ℕ
   change_rows n ticks = flat_map (λ t. change_row t (value s a n t)) ticks
 
-  -- The rows of a line: how far it is settled and how many of its changes are kept, and then each of these. No number is too
-  -- long for its columns.
+  -- The rows of a line: how far it is settled, which is its distance, and how many of its changes are kept, and then each of
+  -- these. No number is too long for its columns.
   pub record LineRows (n : ℕ) (rows : List ℕ) : Type 0 where
     pub ticks : List ℕ
+    pub distance : Distance s a n (settled s.topology a n)
     pub kept : KeptChanges s a n ticks
     pub fit : (n < 10 ^ 4) × (settled s.topology a n < 10 ^ 10) × (length ticks < 10 ^ 4)
     pub are : rows ≡ line_row n (settled s.topology a n) (length ticks) ++ change_rows n ticks

@@ -11,6 +11,7 @@ ghost use Rattle.netlist.specs.Closed.{circuit};
 ghost use Rattle.semantics.specs.Accounts.{Account};
 ghost use Rattle.semantics.specs.Circuits as Circuits;
 ghost use Rattle.semantics.specs.Machines.{IsLine};
+ghost use Rattle.semantics.specs.Moves.{Rest};
 ghost use Rattle.stimulus.specs.declared.entry.Entry.TheVariants.{End};
 ghost use Rattle.values.specs.declared.ternary.Ternary.{Ternary};
 
@@ -92,9 +93,9 @@ fn list_changes<W: Write>(
     Ok(())
 }
 
-// Lists a line: how far it is settled, and its changes.
+// Lists a line of a session at rest: how far it is settled, and its changes.
 fn list_line<W: Write>(session: &Session<Ternary>, line: u32, out: &mut W) -> io::Result<()>
-    ensures { (a : Account Ternary) → StandsFor session.now a → IsLine (machine_in session.now).topology line → (machine_in session.now).room < 10 ^ 4 → OnOk result ((rows : List ℕ) × LineRows (machine_in session.now) a line rows × Appends (W.contents out.old) (W.contents out.new) rows) }
+    ensures { (a : Account Ternary) → StandsFor session.now a → IsLine (machine_in session.now).topology line → Rest (machine_in session.now) a → (machine_in session.now).room < 10 ^ 4 → OnOk result ((rows : List ℕ) × LineRows (machine_in session.now) a line rows × Appends (W.contents out.old) (W.contents out.new) rows) }
 {
     let Ok(state) = session.state(line) else {
         return Ok(());
@@ -103,9 +104,9 @@ fn list_line<W: Write>(session: &Session<Ternary>, line: u32, out: &mut W) -> io
     list_changes(session, line, state.kept, out)
 }
 
-// Lists the outputs, in their order.
+// Lists the outputs of a session at rest, in their order.
 fn list_outputs<W: Write>(session: &Session<Ternary>, out: &mut W) -> io::Result<()>
-    ensures { (a : Account Ternary) → StandsFor session.now a → (machine_in session.now).room < 10 ^ 4 → OnOk result ((text : List ℕ) × RowsOf (machine_in session.now) a (lines_of session.now).circuit.outputs text × Appends (W.contents out.old) (W.contents out.new) text) }
+    ensures { (a : Account Ternary) → StandsFor session.now a → Rest (machine_in session.now) a → (machine_in session.now).room < 10 ^ 4 → OnOk result ((text : List ℕ) × RowsOf (machine_in session.now) a (lines_of session.now).circuit.outputs text × Appends (W.contents out.old) (W.contents out.new) text) }
 {
     for place in 0..session.netlist().outputs() {
         let Some(line) = session.netlist().output(place) else {
@@ -144,8 +145,8 @@ fn simulate<W: Write>(netlist: Netlist, stimulus: &[u8], out: &mut W) -> io::Res
     list_outputs(&session, out)
 }
 
-// Lists a deck and its stimulus: writes the listing of so many bytes at most. Nothing but the bytes decides what is listed,
-// and an error is one of the writer's alone.
+// Lists a deck and its stimulus: writes the listing of the bytes, of `MOST_BYTES` at most. Nothing but the bytes decides what
+// is listed, and an error is the writer's.
 pub fn list<W: Write>(bytes: &[u8], out: &mut W) -> io::Result<()>
     ensures lists { OnOk result ((text : List ℕ) × Listing (take 32768 bytes.now) text × Appends (W.contents out.old) (W.contents out.new) text) }
     ensures only { (text other : List ℕ) → Listing (take 32768 bytes.now) text → Listing (take 32768 bytes.now) other → text ≡ other }

@@ -34,6 +34,6 @@ returns g c =
     let same : machine_in c.give_all.new.session ≡ machine_in t = mid.same ∙ sym there.same in
     let run = subst (λ m. Run m c.run_to_rest-takes.result given.0 rests.0 c.run_to_rest-takes.result rest) same rests.1 in
     let rested = c.run_to_rest-takes.ensures.rests given.0 given.1 rests.0 rests.2 in
-    let rows = c.list_outputs.ensures rests.0 rests.2 (few_changes d t there) in
+    let rows = c.list_outputs.ensures rests.0 rests.2 rested (few_changes d t there) in
     on_ok_weaker c.list_outputs.result
     (λ listed. (listed.0, outputs_so d s is c.args.stimulus.now t there given.0 rests.0 c.run_to_rest-takes.result c.run_to_rest-takes.result rest given.2 run rests.2.log rested listed.0 listed.1, listed.2)) rows

@@ -3,3 +3,4 @@
 
 pub mod lister;
 pub mod rows;
+pub mod sink;

@@ -16,6 +16,7 @@ ghost use Rattle.stimulus.specs.declared.entry.Entry.TheVariants.{End};
 ghost use Rattle.values.specs.declared.ternary.Ternary.{Ternary};
 
 use crate::rows::{change_row, line_row};
+use crate::sink::Sink;
 use deck::closing::read_netlist;
 use deck::fault::{Fault, Layer};
 use engine::session::Session;
@@ -24,7 +25,6 @@ use netlist::closed::Netlist;
 use netlist::draft::Draft;
 use netlist::refusal::Refusal;
 use std::io;
-use std::io::Write;
 use stimulus::entry::Entry;
 use stimulus::reader::StimulusReader;
 use values::ternary::Ternary;
@@ -76,37 +76,40 @@ fn give_all(session: &mut Session<Ternary>, stimulus: &[u8], first: usize) -> Re
 }
 
 // Lists so many changes of a line.
-fn list_changes<W: Write>(
+fn list_changes<S: Sink>(
     session: &Session<Ternary>,
     line: u32,
     kept: usize,
-    out: &mut W,
+    out: &mut S,
 ) -> io::Result<()>
-    ensures { (a : Account Ternary) → StandsFor session.now a → (ticks : List ℕ) → Contents (machine_in session.now) a line ticks kept → OnOk result (Appends (W.contents out.old) (W.contents out.new) (change_rows (machine_in session.now) a line ticks)) }
+    ensures lists { (a : Account Ternary) → StandsFor session.now a → (ticks : List ℕ) → Contents (machine_in session.now) a line ticks kept → OnOk result (Appends (S.contents out.old) (S.contents out.new) (change_rows (machine_in session.now) a line ticks)) }
+    ensures fails { OnErr result ((sink : S) × (row : List ℕ) × S.Refuses sink row) }
 {
     for k in 0..kept {
         let Ok(change) = session.event(line, k) else {
             return Ok(());
         };
-        out.write_all(&change_row(change.tick, change.value))?;
+        out.put(&change_row(change.tick, change.value))?;
     }
     Ok(())
 }
 
 // Lists a line of a session at rest: how far it is settled, and its changes.
-fn list_line<W: Write>(session: &Session<Ternary>, line: u32, out: &mut W) -> io::Result<()>
-    ensures { (a : Account Ternary) → StandsFor session.now a → IsLine (machine_in session.now).topology line → Rest (machine_in session.now) a → (machine_in session.now).room < 10 ^ 4 → OnOk result ((rows : List ℕ) × LineRows (machine_in session.now) a line rows × Appends (W.contents out.old) (W.contents out.new) rows) }
+fn list_line<S: Sink>(session: &Session<Ternary>, line: u32, out: &mut S) -> io::Result<()>
+    ensures lists { (a : Account Ternary) → StandsFor session.now a → IsLine (machine_in session.now).topology line → Rest (machine_in session.now) a → (machine_in session.now).room < 10 ^ 4 → OnOk result ((rows : List ℕ) × LineRows (machine_in session.now) a line rows × Appends (S.contents out.old) (S.contents out.new) rows) }
+    ensures fails { OnErr result ((sink : S) × (row : List ℕ) × S.Refuses sink row) }
 {
     let Ok(state) = session.state(line) else {
         return Ok(());
     };
-    out.write_all(&line_row(line, state.settled, state.kept))?;
+    out.put(&line_row(line, state.settled, state.kept))?;
     list_changes(session, line, state.kept, out)
 }
 
 // Lists the outputs of a session at rest, in their order.
-fn list_outputs<W: Write>(session: &Session<Ternary>, out: &mut W) -> io::Result<()>
-    ensures { (a : Account Ternary) → StandsFor session.now a → Rest (machine_in session.now) a → (machine_in session.now).room < 10 ^ 4 → OnOk result ((text : List ℕ) × RowsOf (machine_in session.now) a (lines_of session.now).circuit.outputs text × Appends (W.contents out.old) (W.contents out.new) text) }
+fn list_outputs<S: Sink>(session: &Session<Ternary>, out: &mut S) -> io::Result<()>
+    ensures lists { (a : Account Ternary) → StandsFor session.now a → Rest (machine_in session.now) a → (machine_in session.now).room < 10 ^ 4 → OnOk result ((text : List ℕ) × RowsOf (machine_in session.now) a (lines_of session.now).circuit.outputs text × Appends (S.contents out.old) (S.contents out.new) text) }
+    ensures fails { OnErr result ((sink : S) × (row : List ℕ) × S.Refuses sink row) }
 {
     for place in 0..session.netlist().outputs() {
         let Some(line) = session.netlist().output(place) else {
@@ -130,16 +133,17 @@ fn open<'a>(netlist: Netlist, store: &'a mut [EventRecord<Ternary>]) -> Session<
 }
 
 // Simulates a netlist with its stimulus, and lists the outputs, or the first fault.
-fn simulate<W: Write>(netlist: Netlist, stimulus: &[u8], out: &mut W) -> io::Result<()>
+fn simulate<S: Sink>(netlist: Netlist, stimulus: &[u8], out: &mut S) -> io::Result<()>
     requires some_lines { 0 < Circuits.lines (circuit netlist) }
     requires few_bytes { length stimulus.now ≤ 32768 }
-    ensures { OnOk result ((text : List ℕ) × Simulated (circuit netlist) (records (circuit netlist) + 1) stimulus.now text × Appends (W.contents out.old) (W.contents out.new) text) }
+    ensures lists { OnOk result ((text : List ℕ) × Simulated (circuit netlist) (records (circuit netlist) + 1) stimulus.now text × Appends (S.contents out.old) (S.contents out.new) text) }
+    ensures fails { OnErr result ((sink : S) × (row : List ℕ) × S.Refuses sink row) }
 {
     let first = netlist.lines() + netlist.outputs() + 3;
     let mut store = [BLANK; RECORDS];
     let mut session = open(netlist, &mut store);
     if let Err(fault) = give_all(&mut session, stimulus, first) {
-        return out.write_all(&fault.row());
+        return out.put(&fault.row());
     }
     let _takes = session.run_to_rest();
     list_outputs(&session, out)
@@ -147,14 +151,15 @@ fn simulate<W: Write>(netlist: Netlist, stimulus: &[u8], out: &mut W) -> io::Res
 
 // Lists a deck and its stimulus: writes the listing of the bytes, of `MOST_BYTES` at most. Nothing but the bytes decides what
 // is listed, and an error is the writer's.
-pub fn list<W: Write>(bytes: &[u8], out: &mut W) -> io::Result<()>
-    ensures lists { OnOk result ((text : List ℕ) × Listing (take 32768 bytes.now) text × Appends (W.contents out.old) (W.contents out.new) text) }
+pub fn list<S: Sink>(bytes: &[u8], out: &mut S) -> io::Result<()>
+    ensures lists { OnOk result ((text : List ℕ) × Listing (take 32768 bytes.now) text × Appends (S.contents out.old) (S.contents out.new) text) }
+    ensures fails { OnErr result ((sink : S) × (row : List ℕ) × S.Refuses sink row) }
     ensures only { (text other : List ℕ) → Listing (take 32768 bytes.now) text → Listing (take 32768 bytes.now) other → text ≡ other }
 {
     let bytes = &bytes[..bytes.len().min(MOST_BYTES)];
     let (outcome, netlist) = read_netlist(bytes);
     match outcome {
         Ok(used) => simulate(netlist, &bytes[used..], out),
-        Err(fault) => out.write_all(&fault.row()),
+        Err(fault) => out.put(&fault.row()),
     }
 }

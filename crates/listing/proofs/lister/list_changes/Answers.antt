@@ -13,18 +13,18 @@ loop-k-init g c a stands ticks contents = Appends-nil _
 pub loop-k-preserved : goal.loop-k-preserved
 loop-k-preserved g c a stands ticks contents =
     let s = machine_in c.args.session.now in
-    let out = g.W.Write.contents in
+    let out = g.S.Sink.contents in
     let row = event_row s a c.args.line ticks c.args.kept c.loop-k.k contents c.loop-k-test.true c.in-Ok.change.tick c.in-Ok.change.value (c.in-Ok.ensures.answers a stands) in
-    let wrote = subst (Appends (out c.loop-k.out) (out c.write_all.new.self)) c.change_row.ensures c.in_ok-write_all.ensures.bytes in
-    subst (Appends (out c.args.out.now) (out c.write_all.new.self)) (sym row) (Appends-trans _ _ _ _ _ (c.loop-k.invariant a stands ticks contents) wrote)
+    let wrote = subst (Appends (out c.loop-k.out) (out c.put.new.self)) c.change_row.ensures c.in_ok-put.ensures.takes in
+    subst (Appends (out c.args.out.now) (out c.put.new.self)) (sym row) (Appends-trans _ _ _ _ _ (c.loop-k.invariant a stands ticks contents) wrote)
 
-pub returns-in_default : goal.returns-in_default
-returns-in_default g c a stands ticks contents =
+pub returns-in_default-clause-lists : goal.returns-in_default-clause-lists
+returns-in_default-clause-lists g c a stands ticks contents =
     absurd (event_there (machine_in c.args.session.now) a c.args.line ticks c.args.kept c.loop-k.k contents c.loop-k-test.true _ (c.in_default.ensures.answers a stands))
 
-pub returns : goal.returns
-returns g c a stands ticks contents =
+pub returns-clause-lists : goal.returns-clause-lists
+returns-clause-lists g c a stands ticks contents =
     let s = machine_in c.args.session.now in
-    let out = g.W.Write.contents in
+    let out = g.S.Sink.contents in
     let all : take c.loop-k.k ticks ≡ ticks = take_all c.loop-k.k ticks (omega (arith, contents.so_many)) in
     subst (λ l. Appends (out c.args.out.now) (out c.loop-k.out) (change_rows s a c.args.line l)) all (c.loop-k.invariant a stands ticks contents)

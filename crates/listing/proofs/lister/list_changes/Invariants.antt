@@ -9,4 +9,4 @@ use Rattle.listing.proofs.lister.list_changes.Given as goal
 abbrev pub invariant-loop-k : goal.invariant-loop-k
 invariant-loop-k g l =
     (a : Account Ternary) → StandsFor l.session a → (ticks : List ℕ) → Contents (machine_in l.session) a l.line ticks l.kept
-    → Appends (g.W.Write.contents l.initial.out) (g.W.Write.contents l.out) (change_rows (machine_in l.session) a l.line (take l.k ticks))
+    → Appends (g.S.Sink.contents l.initial.out) (g.S.Sink.contents l.out) (change_rows (machine_in l.session) a l.line (take l.k ticks))

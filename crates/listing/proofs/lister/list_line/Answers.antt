@@ -13,14 +13,14 @@ use Rattle.listing.specs.Rows.{line_row}
 use Rattle.listing.proofs.Changing.{state_told, state_there, rows_of_line}
 use Rattle.listing.proofs.lister.list_line.Goals as goal
 
-pub returns-in_default : goal.returns-in_default
-returns-in_default g c a stands line rests small = absurd (state_there (machine_in c.args.session.now) a c.args.line _ (c.in_default.ensures.answers a stands) line)
+pub returns-in_default-clause-lists : goal.returns-in_default-clause-lists
+returns-in_default-clause-lists g c a stands line rests small = absurd (state_there (machine_in c.args.session.now) a c.args.line _ (c.in_default.ensures.answers a stands) line)
 
-pub returns : goal.returns
-returns g c a stands line rests small =
+pub returns-clause-lists : goal.returns-clause-lists
+returns-clause-lists g c a stands line rests small =
     let s = machine_in c.args.session.now in
     let p = lines_of c.args.session.now in
-    let out = g.W.Write.contents in
+    let out = g.S.Sink.contents in
     let is = sure c.args.session.now.lines in
     let state = c.in-Ok.state in
     let told = state_told s a c.args.line state.settled state.kept (c.in-Ok.ensures.answers a stands) line in
@@ -29,5 +29,5 @@ returns g c a stands line rests small =
     let early = bounded (λ v. v) three_valued p c.args.session.now.store.now a is stands c.args.line in
     let fits = (kept_changes_fit three_valued p.circuit (room p) is.wired a stands.log).in_room c.args.line in
     let rows = rows_of_line s a c.args.line state.settled state.kept told distance (omega (arith, narrow.1, is.few)) (omega (arith, early)) fits small in
-    let wrote = subst (Appends (out c.args.out.now) (out c.write_all.new.self)) c.line_row.ensures c.in_ok-write_all.ensures.bytes in
-    on_ok_weaker c.list_changes.result (λ more. (line_row c.args.line state.settled state.kept ++ change_rows s a c.args.line told.ticks, rows, Appends-trans _ _ _ _ _ wrote more)) (c.list_changes.ensures a stands told.ticks told.contents)
+    let wrote = subst (Appends (out c.args.out.now) (out c.put.new.self)) c.line_row.ensures c.in_ok-put.ensures.takes in
+    on_ok_weaker c.list_changes.result (λ more. (line_row c.args.line state.settled state.kept ++ change_rows s a c.args.line told.ticks, rows, Appends-trans _ _ _ _ _ wrote more)) (c.list_changes.ensures.lists a stands told.ticks told.contents)

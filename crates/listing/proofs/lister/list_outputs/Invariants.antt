@@ -11,4 +11,4 @@ use Rattle.listing.proofs.lister.list_outputs.Given as goal
 abbrev pub invariant-loop-place : goal.invariant-loop-place
 invariant-loop-place g l =
     (a : Account Ternary) → StandsFor l.session a → Rest (machine_in l.session) a → (machine_in l.session).room < 10 ^ 4
-    → (text : List ℕ) × RowsOf (machine_in l.session) a (take l.place (lines_of l.session).circuit.outputs) text × Appends (g.W.Write.contents l.initial.out) (g.W.Write.contents l.out) text
+    → (text : List ℕ) × RowsOf (machine_in l.session) a (take l.place (lines_of l.session).circuit.outputs) text × Appends (g.S.Sink.contents l.initial.out) (g.S.Sink.contents l.out) text

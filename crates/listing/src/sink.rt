@@ -1,0 +1,47 @@
+// Where a listing goes.
+ghost use Rattle.std.specs.Prelude.{ℕ, List, OnOk, OnErr};
+ghost use Rattle.std.specs.Io.KnownBytes.{Appends};
+ghost use Rattle.std.specs.declared.option.Option.{Option};
+
+use arrayvec::ArrayVec;
+use std::io;
+use std::io::{ErrorKind, Write};
+
+// What takes bytes. It tells what it holds, if that is known, and refuses bytes only where it says so.
+pub trait Sink {
+    ghost contents: { Self → Option (List ℕ) };
+
+    ghost Refuses: { Self → List ℕ → Type 0 };
+
+    fn put(&mut self, bytes: &[u8]) -> io::Result<()>
+        ensures takes { OnOk result (Appends (contents self.old) (contents self.new) bytes.now) }
+        ensures refuses { OnErr result (Refuses self.old bytes.now) };
+}
+
+// A writer may fail at any time.
+#[derive(Drop)]
+pub struct Writing<W>(pub W);
+
+impl<W: Write> Sink for Writing<W> {
+    ghost contents = { λ sink. W.contents sink.0 };
+
+    ghost Refuses = { λ _ _. Unit {0} };
+
+    fn put(&mut self, bytes: &[u8]) -> io::Result<()> {
+        self.0.write_all(bytes)
+    }
+}
+
+// A vector of bounded length refuses what is too long for it, and nothing else.
+impl<const CAP: usize> Sink for ArrayVec<u8, CAP> {
+    ghost use Rattle.std.specs.Prelude.{◌+◌, ◌<◌, Some, length};
+
+    ghost contents = { λ sink. Some sink.items };
+
+    ghost Refuses = { λ sink bytes. CAP < length sink.items + length bytes };
+
+    fn put(&mut self, bytes: &[u8]) -> io::Result<()> {
+        self.try_extend_from_slice(bytes)
+            .or(Err(ErrorKind::StorageFull.into()))
+    }
+}

@@ -2,7 +2,6 @@
 use Rattle.std.proofs.Common.{◌≡◌, ℕ, ◌+◌, ◌-◌, ◌/◌, ◌^◌, ◌<◌, ◌≤◌, true, ◌&&◌, eqb, ltb, List, [], ◌∷◌, ◌++◌, length, drop, sym, refl, ap, ◌∙◌, subst, arith}
 use mathlib.Core.Path.{ap₂}
 use Rattle.std.specs.List.{flat_map, list_all, AllByRecursion}
-use Rattle.std.specs.Int.{is_in_range}
 use Rattle.std.proofs.lemmas.Bool.{and_parts, eqb-true}
 use Rattle.deck.specs.Closing.{Sound, Refused}
 use Rattle.deck.specs.Faults.{Told, fault_row}
@@ -10,7 +9,6 @@ use Rattle.deck.specs.Outcomes.{Answer, used, fault}
 use Rattle.deck.proofs.ClosedDecks.{closed_unique}
 use Rattle.deck.proofs.Following.{limited}
 use Rattle.netlist.specs.Gates.{Circuit, nothing, legal, on_lines}
-use Rattle.netlist.proofs.Ranges.{bounds}
 use Rattle.semantics.specs.Accounts.{Account, value}
 use Rattle.semantics.specs.Changes.{Changes}
 use Rattle.semantics.specs.Circuits.{lines, topology, Wired}
@@ -18,11 +16,12 @@ use Rattle.semantics.specs.Comparisons.{Alike, Agree}
 use Rattle.semantics.specs.Machines.{Machine, IsLine, IsInput}
 use Rattle.semantics.proofs.Listing.{one_list}
 use Rattle.semantics.proofs.Proved.{alike_rests_agree}
-use Rattle.semantics.proofs.Wiring.{a_line, input_range}
+use Rattle.semantics.proofs.Wiring.{input_range}
 use Rattle.values.specs.Knowledge.{three_valued}
 use Rattle.values.specs.declared.ternary.Ternary.{Ternary}
-use Rattle.listing.specs.Listings.{listed, unknown, LineRows, RowsOf, Simulated, records, Listing, change_rows}
+use Rattle.listing.specs.Listings.{lister_machine, unknown, LineRows, RowsOf, Simulated, deck_records, Listing, change_rows}
 use Rattle.listing.specs.Rows.{line_row, change_row}
+use Rattle.listing.proofs.Outputs.{all_lines}
 use Rattle.listing.proofs.Unique.{whole_one, fault_one, whole_no_fault}
 
 -- rows of changes below a tick are the same where they are alike below it
@@ -51,26 +50,18 @@ alike_both s given a b left right = record {
   trims = sym left.trims ∙ right.trims;
 }
 
--- each of some numbers is that of a line
-all_lines : (c : Circuit) (ns : List ℕ) → on_lines (lines c) ns ≡ true → AllByRecursion (IsLine (topology c)) ns
-all_lines c [] on = tt
-all_lines c (n ∷ ns) on =
-    let parts = and_parts (is_in_range 1 (lines c) n) (on_lines (lines c) ns) on in
-    let range = bounds 1 (lines c) n parts.0 in
-    (a_line c n range.0 range.1, all_lines c ns parts.1)
-
 module _ (c : Circuit) (wired : Wired c) (on : on_lines (lines c) c.outputs ≡ true) (few : lines c < 10 ^ 4) (first : ℕ) (stimulus : List ℕ) where
   inputs_are_lines : (n : ℕ) → IsInput (topology c) n → (1 ≤ n) × (n ≤ lines c)
   inputs_are_lines n an_input = let range = input_range c n an_input in (omega (arith, range.0), omega (arith, range.1))
 
   simulated_one : (text other : List ℕ) → Simulated c first stimulus text → Simulated c first stimulus other → text ≡ other
   simulated_one text other (Simulated.outputs {given = given} {rest = a} whole log alike rests rows) (Simulated.outputs {given = given'} {rest = b} whole' log' alike' rests' rows') =
-      let same : given ≡ given' = whole_one (listed c) (lines c) few inputs_are_lines unknown given given' stimulus whole whole' in
-      let both = alike_both (listed c) given a b alike (subst (λ d. Alike (listed c) d b) (sym same) alike') in
-      rows_one (listed c) a b (alike_rests_agree three_valued c (4096 / lines c - 1) wired a b log log' rests rests' both) c.outputs (all_lines c c.outputs on) rows rows'
-  simulated_one text other (Simulated.outputs {given = given} whole log alike rests rows) (Simulated.faulty {f = f} bad is) = absurd (whole_no_fault (listed c) (lines c) few inputs_are_lines unknown given first stimulus f whole bad)
-  simulated_one text other (Simulated.faulty {f = f} bad is) (Simulated.outputs {given = given} whole log alike rests rows) = absurd (whole_no_fault (listed c) (lines c) few inputs_are_lines unknown given first stimulus f whole bad)
-  simulated_one text other (Simulated.faulty {f = f} bad is) (Simulated.faulty {f = g} bad' is') = is ∙ ap fault_row (fault_one (listed c) (lines c) few inputs_are_lines unknown first stimulus f g bad bad') ∙ sym is'
+      let same : given ≡ given' = whole_one (lister_machine c) (lines c) few inputs_are_lines unknown given given' stimulus whole whole' in
+      let both = alike_both (lister_machine c) given a b alike (subst (λ d. Alike (lister_machine c) d b) (sym same) alike') in
+      rows_one (lister_machine c) a b (alike_rests_agree three_valued c (4096 / lines c - 1) wired a b log log' rests rests' both) c.outputs (all_lines c c.outputs on) rows rows'
+  simulated_one text other (Simulated.outputs {given = given} whole log alike rests rows) (Simulated.faulty {f = f} bad is) = absurd (whole_no_fault (lister_machine c) (lines c) few inputs_are_lines unknown given first stimulus f whole bad)
+  simulated_one text other (Simulated.faulty {f = f} bad is) (Simulated.outputs {given = given} whole log alike rests rows) = absurd (whole_no_fault (lister_machine c) (lines c) few inputs_are_lines unknown given first stimulus f whole bad)
+  simulated_one text other (Simulated.faulty {f = f} bad is) (Simulated.faulty {f = g} bad' is') = is ∙ ap fault_row (fault_one (lister_machine c) (lines c) few inputs_are_lines unknown first stimulus f g bad bad') ∙ sym is'
 
 -- what is known of the circuit of a deck
 record Known (c : Circuit) : Type 0 where
@@ -107,13 +98,13 @@ module _ (bytes : List ℕ) where
   sound_or_refused : (n : ℕ) (c : Circuit) (f : Told) → Sound bytes n c → Refused bytes f → ⊥
   sound_or_refused n c f sound r = let same = (closed_unique bytes (used n) (fault f) c nothing sound (r, refl)).0 in cc
 
-  both_simulated : (n m : ℕ) (c d : Circuit) (text other : List ℕ) → Sound bytes n c → Sound bytes m d → Simulated c (records c + 1) (drop n bytes) text → Simulated d (records d + 1) (drop m bytes) other → text ≡ other
+  both_simulated : (n m : ℕ) (c d : Circuit) (text other : List ℕ) → Sound bytes n c → Sound bytes m d → Simulated c (deck_records c + 1) (drop n bytes) text → Simulated d (deck_records d + 1) (drop m bytes) other → text ≡ other
   unfolding count_of
   both_simulated n m c d text other sound sound' simulated simulated' =
       let k = known bytes n c sound in
       let same = closed_unique bytes (used n) (used m) c d sound sound' in
-      let there = subst (λ x. Simulated x (records x + 1) (drop n bytes) other) (sym same.1) (subst (λ x. Simulated d (records d + 1) (drop x bytes) other) (sym (ap count_of same.0)) simulated') in
-      simulated_one c k.wired k.on k.few (records c + 1) (drop n bytes) text other simulated there
+      let there = subst (λ x. Simulated x (deck_records x + 1) (drop n bytes) other) (sym same.1) (subst (λ x. Simulated d (deck_records d + 1) (drop x bytes) other) (sym (ap count_of same.0)) simulated') in
+      simulated_one c k.wired k.on k.few (deck_records c + 1) (drop n bytes) text other simulated there
 
   pub listing_one : (text other : List ℕ) → Listing bytes text → Listing bytes other → text ≡ other
   listing_one text other (Listing.refused {f = f} r is) (Listing.refused {f = g} q is') = is ∙ ap fault_row (one_refused f g r q) ∙ sym is'

@@ -6,8 +6,10 @@ use Rattle.std.proofs.lemmas.Bool.{cases_lt}
 use Rattle.std.proofs.lemmas.List.{get_or-replicate, get_or_past, get_or-take, length-replicate, length-take}
 use Rattle.deck.specs.Faults.{Told, fault_row}
 use Rattle.engine.specs.Answers.{Making}
-use Rattle.engine.specs.Sessions.{Fresh, Made, KeepsItsOwn, lines_of, given}
+use Rattle.engine.specs.Sessions.{Fresh, Made, KeepsItsOwn, lines_of, netlist_of, given}
 use Rattle.engine.specs.declared.session.Session.{Session}
+use Rattle.engine.specs.Lines.{room}
+use Rattle.engine.proofs.Books.{sure, bounded, of_line}
 use Rattle.engine.proofs.Runs.{same_machine}
 use Rattle.events.specs.declared.record.EventRecord.{EventRecord}
 use Rattle.netlist.specs.Gates.{Circuit}
@@ -18,12 +20,15 @@ use Rattle.semantics.specs.Comparisons.{Alike}
 use Rattle.semantics.specs.Logs.{Takes, Run, Ending, Log}
 use Rattle.semantics.specs.Machines.{Machine}
 use Rattle.semantics.specs.Moves.{made, Rest}
+use Rattle.semantics.proofs.Proved.{kept_changes_fit, settled_is_the_distance}
 use Rattle.values.specs.Knowledge.{three_valued}
 use Rattle.values.specs.declared.ternary.Ternary.{Ternary}
 use Rattle.values.specs.declared.ternary.Ternary.TheVariants.{X}
 use Rattle.listing.specs.Listers.{machine_in, StandsFor, IsSessionOf}
 use Rattle.listing.specs.Given.{Whole, FirstFault}
-use Rattle.listing.specs.Listings.{unknown, records, RowsOf, Simulated}
+use Rattle.listing.proofs.Changing.{some_rows}
+use Rattle.listing.proofs.Outputs.{outputs_are_lines, some_text}
+use Rattle.listing.specs.Listings.{unknown, deck_records, RowsOf, Simulated}
 
 -- takes give nothing
 takes_alike : (s : Machine Ternary) {k : ℕ} {a b : Account Ternary} → Takes s k a b → Alike s a b
@@ -71,14 +76,25 @@ module _ (c : Circuit) (some : 0 < lines c) (few : lines c ≤ 1024) (store : Li
       subst (StandsFor s) same (fresh r making m).stands
 
 module _ (c : Circuit) (s : Session Ternary) (is : IsSessionOf c s) (stimulus : List ℕ) where
-  pub faulty_so : (first : ℕ) (f : Told) → first ≡ records c + 1 → FirstFault (machine_in s) unknown (lines (lines_of s).circuit) first stimulus f → Simulated c (records c + 1) stimulus (fault_row f)
+  pub faulty_so : (first : ℕ) (f : Told) → first ≡ deck_records c + 1 → FirstFault (machine_in s) unknown (lines (lines_of s).circuit) first stimulus f → Simulated c (deck_records c + 1) stimulus (fault_row f)
   faulty_so first f counted fault =
       Simulated.faulty
-      (subst (λ m. FirstFault m unknown (lines c) (records c + 1) stimulus f) is.same (subst (λ d. FirstFault (machine_in s) unknown (lines d) (records c + 1) stimulus f) is.circuit (subst (λ n. FirstFault (machine_in s) unknown (lines (lines_of s).circuit) n stimulus f) counted fault)))
+      (subst (λ m. FirstFault m unknown (lines c) (deck_records c + 1) stimulus f) is.same (subst (λ d. FirstFault (machine_in s) unknown (lines d) (deck_records c + 1) stimulus f) is.circuit (subst (λ n. FirstFault (machine_in s) unknown (lines (lines_of s).circuit) n stimulus f) counted fault)))
       refl
 
   -- what was given was run to rest, and the outputs were listed
-  pub outputs_so : (t : Session Ternary) → IsSessionOf c t → (given rest : Account Ternary) (most count : ℕ) (ending : Ending) → Whole (machine_in s) unknown stimulus given → Run (machine_in t) most given rest count ending → Log (machine_in t) rest → Rest (machine_in t) rest → (text : List ℕ) → RowsOf (machine_in t) rest (lines_of t).circuit.outputs text → Simulated c (records c + 1) stimulus text
+  pub outputs_so : (t : Session Ternary) → IsSessionOf c t → (given rest : Account Ternary) (most count : ℕ) (ending : Ending) → Whole (machine_in s) unknown stimulus given → Run (machine_in t) most given rest count ending → Log (machine_in t) rest → Rest (machine_in t) rest → (text : List ℕ) → RowsOf (machine_in t) rest (lines_of t).circuit.outputs text → Simulated c (deck_records c + 1) stimulus text
   outputs_so t there given rest most count ending whole run log rests text rows =
       Simulated.outputs (subst (λ m. Whole m unknown stimulus given) is.same whole) (subst (λ m. Log m rest) there.same log) (subst (λ m. Alike m given rest) there.same (run_alike (machine_in t) run)) (subst (λ m. Rest m rest) there.same rests)
       (subst (λ m. RowsOf m rest c.outputs text) there.same (subst (λ (d : Circuit). RowsOf (machine_in t) rest d.outputs text) there.circuit rows))
+
+-- at rest the outputs have a text
+pub text_at_rest : (c : Circuit) (t : Session Ternary) → IsSessionOf c t → (a : Account Ternary) → StandsFor t a → Rest (machine_in t) a → (text : List ℕ) × RowsOf (machine_in t) a (lines_of t).circuit.outputs text
+text_at_rest c t is a stands rests =
+    let p = lines_of t in
+    let sure_of = sure t.lines in
+    some_text (machine_in t) a p.circuit.outputs (outputs_are_lines (netlist_of t)) (λ n line.
+    let range = of_line p n line in
+    let early = bounded (λ v. v) three_valued p t.store.now a sure_of stands n in
+    some_rows (machine_in t) a n (settled_is_the_distance three_valued p.circuit (room p) sure_of.wired a stands.log rests n line) (omega (arith, range.1, sure_of.few)) (omega (arith, early))
+    ((kept_changes_fit three_valued p.circuit (room p) sure_of.wired a stands.log).in_room n) (few_changes c t is))

@@ -7,7 +7,7 @@ use Rattle.semantics.specs.Accounts.{Account, KeptChanges}
 use Rattle.semantics.specs.Machines.{Machine, IsLine}
 use Rattle.values.specs.Knowledge.{three_valued}
 use Rattle.values.specs.declared.ternary.Ternary.{Ternary}
-use Rattle.listing.specs.Listings.{listed}
+use Rattle.listing.specs.Listings.{lister_machine}
 
 abbrev pub machine_in : Session Ternary → Machine Ternary
 machine_in s = Sessions.machine_in three_valued s
@@ -19,7 +19,7 @@ StandsFor s a = Sessions.StandsFor (λ v. v) three_valued s a
 -- a session of a circuit, in the lister's store
 pub record IsSessionOf (c : Circuit) (s : Session Ternary) : Type 0 where
   pub circuit : (Sessions.lines_of s).circuit ≡ c
-  pub same : machine_in s ≡ listed c
+  pub same : machine_in s ≡ lister_machine c
 
 -- so many changes of a line are kept, at these ticks
 pub record Contents (s : Machine Ternary) (a : Account Ternary) (n : ℕ) (ticks : List ℕ) (count : ℕ) : Type 0 where

@@ -19,8 +19,8 @@ use Rattle.listing.specs.Given.{Whole, FirstFault}
 use Rattle.listing.specs.Rows.{line_row, change_row}
 
 -- a circuit in three values, with 4,096 records for all lines, of which each line's first holds its base
-abbrev pub listed : Circuit → Machine Ternary
-listed c = machine three_valued c (4096 / lines c - 1)
+abbrev pub lister_machine : Circuit → Machine Ternary
+lister_machine c = machine three_valued c (4096 / lines c - 1)
 
 -- every input begins with X
 abbrev pub unknown : Account Ternary
@@ -48,14 +48,14 @@ module _ (s : Machine Ternary) (a : Account Ternary) where
 -- The listing of a circuit with a stimulus whose records count on from a number: the rows of its outputs at rest, wherever all
 -- that the stimulus gives was given; or its first fault.
 pub data Simulated (c : Circuit) (first : ℕ) (stimulus text : List ℕ) : Type 0 where
-  outputs : {given rest : Account Ternary} → Whole (listed c) unknown stimulus given → Log (listed c) rest → Alike (listed c) given rest → Rest (listed c) rest → RowsOf (listed c) rest c.outputs text → Simulated c first stimulus text
-  faulty : {f : Told} → FirstFault (listed c) unknown (lines c) first stimulus f → text ≡ fault_row f → Simulated c first stimulus text
+  outputs : {given rest : Account Ternary} → Whole (lister_machine c) unknown stimulus given → Log (lister_machine c) rest → Alike (lister_machine c) given rest → Rest (lister_machine c) rest → RowsOf (lister_machine c) rest c.outputs text → Simulated c first stimulus text
+  faulty : {f : Told} → FirstFault (lister_machine c) unknown (lines c) first stimulus f → text ≡ fault_row f → Simulated c first stimulus text
 
 -- how many records a deck has: one for each line and each output, its header and its end
-abbrev pub records : Circuit → ℕ
-records c = lines c + length c.outputs + 2
+abbrev pub deck_records : Circuit → ℕ
+deck_records c = lines c + length c.outputs + 2
 
 -- The listing of bytes: the deck's fault, or the listing of its circuit with the stimulus that follows.
 pub data Listing (bytes text : List ℕ) : Type 0 where
   refused : {f : Told} → Refused bytes f → text ≡ fault_row f → Listing bytes text
-  simulated : {used : ℕ} {c : Circuit} → Sound bytes used c → Simulated c (records c + 1) (drop used bytes) text → Listing bytes text
+  simulated : {used : ℕ} {c : Circuit} → Sound bytes used c → Simulated c (deck_records c + 1) (drop used bytes) text → Listing bytes text

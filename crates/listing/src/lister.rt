@@ -1,17 +1,16 @@
 // The lister: the listing of a deck with its stimulus.
-ghost use Rattle.std.specs.Prelude.{◌≡◌, ℕ, ◌+◌, ◌^◌, ◌<◌, ◌≤◌, Ok, length, take, OnOk, OnErr, MatchResult, ◌≢◌, List};
-ghost use Rattle.std.specs.Io.KnownBytes.{Appends};
+ghost use Rattle.std.specs.Prelude.{◌≡◌, ℕ, ◌+◌, ◌<◌, ◌≤◌, Ok, length, take, OnErr, MatchResult, ◌≢◌, List};
 ghost use Rattle.deck.specs.Faults.{told};
 ghost use Rattle.engine.specs.Answers.{numbered};
 ghost use Rattle.engine.specs.Sessions.{KeepsItsOwn, lines_of};
 ghost use Rattle.listing.specs.Given.{Gives, Whole, FirstFault};
 ghost use Rattle.listing.specs.Listers.{machine_in, StandsFor, IsSessionOf, Contents};
-ghost use Rattle.listing.specs.Listings.{change_rows, LineRows, RowsOf, Simulated, Listing, unknown, records};
+ghost use Rattle.listing.specs.Listings.{change_rows, LineRows, RowsOf, Simulated, Listing, unknown, deck_records};
+ghost use Rattle.listing.specs.Sinks.{Put};
 ghost use Rattle.netlist.specs.Closed.{circuit};
 ghost use Rattle.semantics.specs.Accounts.{Account};
 ghost use Rattle.semantics.specs.Circuits as Circuits;
 ghost use Rattle.semantics.specs.Machines.{IsLine};
-ghost use Rattle.semantics.specs.Moves.{Rest};
 ghost use Rattle.stimulus.specs.declared.entry.Entry.TheVariants.{End};
 ghost use Rattle.values.specs.declared.ternary.Ternary.{Ternary};
 
@@ -82,8 +81,7 @@ fn list_changes<S: Sink>(
     kept: usize,
     out: &mut S,
 ) -> io::Result<()>
-    ensures lists { (a : Account Ternary) → StandsFor session.now a → (ticks : List ℕ) → Contents (machine_in session.now) a line ticks kept → OnOk result (Appends (S.contents out.old) (S.contents out.new) (change_rows (machine_in session.now) a line ticks)) }
-    ensures fails { OnErr result ((sink : S) × (row : List ℕ) × S.Refuses sink row) }
+    ensures { (a : Account Ternary) → StandsFor session.now a → (ticks : List ℕ) → Contents (machine_in session.now) a line ticks kept → Put S.contents S.Refuses result out.old out.new (change_rows (machine_in session.now) a line ticks) }
 {
     for k in 0..kept {
         let Ok(change) = session.event(line, k) else {
@@ -94,10 +92,9 @@ fn list_changes<S: Sink>(
     Ok(())
 }
 
-// Lists a line of a session at rest: how far it is settled, and its changes.
+// Lists a line: how far it is settled, and its changes.
 fn list_line<S: Sink>(session: &Session<Ternary>, line: u32, out: &mut S) -> io::Result<()>
-    ensures lists { (a : Account Ternary) → StandsFor session.now a → IsLine (machine_in session.now).topology line → Rest (machine_in session.now) a → (machine_in session.now).room < 10 ^ 4 → OnOk result ((rows : List ℕ) × LineRows (machine_in session.now) a line rows × Appends (S.contents out.old) (S.contents out.new) rows) }
-    ensures fails { OnErr result ((sink : S) × (row : List ℕ) × S.Refuses sink row) }
+    ensures { (a : Account Ternary) → StandsFor session.now a → IsLine (machine_in session.now).topology line → (rows : List ℕ) → LineRows (machine_in session.now) a line rows → Put S.contents S.Refuses result out.old out.new rows }
 {
     let Ok(state) = session.state(line) else {
         return Ok(());
@@ -106,10 +103,9 @@ fn list_line<S: Sink>(session: &Session<Ternary>, line: u32, out: &mut S) -> io:
     list_changes(session, line, state.kept, out)
 }
 
-// Lists the outputs of a session at rest, in their order.
+// Lists the outputs, in their order.
 fn list_outputs<S: Sink>(session: &Session<Ternary>, out: &mut S) -> io::Result<()>
-    ensures lists { (a : Account Ternary) → StandsFor session.now a → Rest (machine_in session.now) a → (machine_in session.now).room < 10 ^ 4 → OnOk result ((text : List ℕ) × RowsOf (machine_in session.now) a (lines_of session.now).circuit.outputs text × Appends (S.contents out.old) (S.contents out.new) text) }
-    ensures fails { OnErr result ((sink : S) × (row : List ℕ) × S.Refuses sink row) }
+    ensures { (a : Account Ternary) → StandsFor session.now a → (text : List ℕ) → RowsOf (machine_in session.now) a (lines_of session.now).circuit.outputs text → Put S.contents S.Refuses result out.old out.new text }
 {
     for place in 0..session.netlist().outputs() {
         let Some(line) = session.netlist().output(place) else {
@@ -121,7 +117,7 @@ fn list_outputs<S: Sink>(session: &Session<Ternary>, out: &mut S) -> io::Result<
 }
 
 // Makes a session in the lister's store, whose inputs begin with X.
-fn open<'a>(netlist: Netlist, store: &'a mut [EventRecord<Ternary>]) -> Session<'a, Ternary>
+fn make_session<'a>(netlist: Netlist, store: &'a mut [EventRecord<Ternary>]) -> Session<'a, Ternary>
     requires some_lines { 0 < Circuits.lines (circuit netlist) }
     requires its_store { length store.old ≡ 4096 }
     ensures of_the_netlist { IsSessionOf (circuit netlist) result }
@@ -136,12 +132,12 @@ fn open<'a>(netlist: Netlist, store: &'a mut [EventRecord<Ternary>]) -> Session<
 fn simulate<S: Sink>(netlist: Netlist, stimulus: &[u8], out: &mut S) -> io::Result<()>
     requires some_lines { 0 < Circuits.lines (circuit netlist) }
     requires few_bytes { length stimulus.now ≤ 32768 }
-    ensures lists { OnOk result ((text : List ℕ) × Simulated (circuit netlist) (records (circuit netlist) + 1) stimulus.now text × Appends (S.contents out.old) (S.contents out.new) text) }
-    ensures fails { OnErr result ((sink : S) × (row : List ℕ) × S.Refuses sink row) }
+    ensures { (text : List ℕ) × Simulated (circuit netlist) (deck_records (circuit netlist) + 1) stimulus.now text × Put S.contents S.Refuses result out.old out.new text }
 {
+    // One after the deck's header, its lines, its outputs and its end.
     let first = netlist.lines() + netlist.outputs() + 3;
     let mut store = [BLANK; RECORDS];
-    let mut session = open(netlist, &mut store);
+    let mut session = make_session(netlist, &mut store);
     if let Err(fault) = give_all(&mut session, stimulus, first) {
         return out.put(&fault.row());
     }
@@ -149,11 +145,10 @@ fn simulate<S: Sink>(netlist: Netlist, stimulus: &[u8], out: &mut S) -> io::Resu
     list_outputs(&session, out)
 }
 
-// Lists a deck and its stimulus: writes the listing of the bytes, of `MOST_BYTES` at most. Nothing but the bytes decides what
-// is listed, and an error is the writer's.
+// Lists a deck and its stimulus: puts the listing of the bytes, of `MOST_BYTES` at most, into a sink. Nothing but the bytes
+// decides what is listed, and an error is the sink's.
 pub fn list<S: Sink>(bytes: &[u8], out: &mut S) -> io::Result<()>
-    ensures lists { OnOk result ((text : List ℕ) × Listing (take 32768 bytes.now) text × Appends (S.contents out.old) (S.contents out.new) text) }
-    ensures fails { OnErr result ((sink : S) × (row : List ℕ) × S.Refuses sink row) }
+    ensures lists { (text : List ℕ) × Listing (take 32768 bytes.now) text × Put S.contents S.Refuses result out.old out.new text }
     ensures only { (text other : List ℕ) → Listing (take 32768 bytes.now) text → Listing (take 32768 bytes.now) other → text ≡ other }
 {
     let bytes = &bytes[..bytes.len().min(MOST_BYTES)];

@@ -1,5 +1,5 @@
 // Where a listing goes.
-ghost use Rattle.std.specs.Prelude.{ℕ, List, OnOk, OnErr};
+ghost use Rattle.std.specs.Prelude.{ℕ, List, MatchResult};
 ghost use Rattle.std.specs.Io.KnownBytes.{Appends};
 ghost use Rattle.std.specs.declared.option.Option.{Option};
 
@@ -14,8 +14,7 @@ pub trait Sink {
     ghost Refuses: { Self → List ℕ → Type 0 };
 
     fn put(&mut self, bytes: &[u8]) -> io::Result<()>
-        ensures takes { OnOk result (Appends (contents self.old) (contents self.new) bytes.now) }
-        ensures refuses { OnErr result (Refuses self.old bytes.now) };
+        ensures takes_or_refuses { MatchResult result (λ _. Appends (contents self.old) (contents self.new) bytes.now) (λ _. Refuses self.old bytes.now) };
 }
 
 // A writer may fail at any time.

@@ -1,14 +1,13 @@
 use Rattle.std.proofs.Common.{◌≡◌, ℕ, ◌+◌, ◌-◌, min, List, length, take, drop, refl, sym, ap, ◌∙◌, subst, ⊎_elim, arith}
 use Rattle.std.proofs.lemmas.Bool.{cases_lt}
 use Rattle.std.proofs.lemmas.List.{take_all, length-drop}
-use Rattle.std.proofs.lemmas.Result.{on_ok_weaker}
-use Rattle.std.specs.Io.KnownBytes.{Appends}
 use Rattle.deck.specs.Closing.{ClosedOutcome}
 use Rattle.deck.specs.Faults.{told, fault_row}
 use Rattle.deck.specs.Outcomes.{answer_of}
 use Rattle.netlist.specs.Closed.{circuit}
-use Rattle.listing.specs.Listings.{Listing, Simulated, records}
+use Rattle.listing.specs.Listings.{Listing, Simulated, deck_records}
 use Rattle.listing.proofs.Only.{listing_one}
+use Rattle.listing.proofs.Putting.{put_so}
 use Rattle.listing.proofs.lister.list.Goals as goal
 
 -- so many bytes at most
@@ -24,16 +23,17 @@ returns-in-Ok-clause-lists g c =
     let deck = subst (λ r. ClosedOutcome bytes (answer_of r) (circuit netlist)) c.in-Ok.is c.read_netlist-outcome.ensures.comes_to in
     let used = c.in-Ok.used in
     let rest : take (length bytes - used) (drop used bytes) ≡ drop used bytes = let long = length-drop used bytes in take_all (length bytes - used) (drop used bytes) (omega arith) in
-    on_ok_weaker c.simulate.result (λ listed. (listed.0, subst (λ l. Listing l listed.0) same (Listing.simulated deck (subst (λ l. Simulated (circuit netlist) (records (circuit netlist) + 1) l listed.0) rest listed.1)), listed.2)) c.simulate.ensures.lists
+    let listed = c.simulate.ensures in
+    (listed.0, subst (λ l. Listing l listed.0) same (Listing.simulated deck (subst (λ l. Simulated (circuit netlist) (deck_records (circuit netlist) + 1) l listed.0) rest listed.1)), listed.2)
 
 pub returns-in-Err-clause-lists : goal.returns-in-Err-clause-lists
 returns-in-Err-clause-lists g c =
     let bytes = take c.min.result c.args.bytes.now in
-    let out = g.S.Sink.contents in
     let same = at_most 32768 c.min.result c.args.bytes.now c.min.ensures in
     let netlist = c.read_netlist-outcome.result.1 in
     let refused = subst (λ r. ClosedOutcome bytes (answer_of r) (circuit netlist)) c.in-Err.is c.read_netlist-outcome.ensures.comes_to in
-    on_ok_weaker c.put.result (λ wrote. (fault_row (told c.in-Err.fault), subst (λ l. Listing l (fault_row (told c.in-Err.fault))) same (Listing.refused refused.0 refl), subst (Appends (out c.args.out.now) (out c.put.new.self)) c.row.ensures wrote)) c.put.ensures.takes
+    let row = fault_row (told c.in-Err.fault) in
+    (row, subst (λ l. Listing l row) same (Listing.refused refused.0 refl), put_so g.S.Sink.contents g.S.Sink.Refuses c.put.result c.args.out.now c.put.new.self c.row.result row c.row.ensures c.put.ensures.takes_or_refuses)
 
 pub returns-in-Ok-clause-only : goal.returns-in-Ok-clause-only
 returns-in-Ok-clause-only g c = listing_one (take 32768 c.args.bytes.now)

@@ -4,7 +4,7 @@ use Rattle.netlist.specs.Closed.{circuit}
 use Rattle.values.specs.declared.ternary.Ternary.TheVariants.{X}
 use Rattle.listing.proofs.Outputs.{few_lines}
 use Rattle.listing.proofs.Simulating.{opened, begins_unknown}
-use Rattle.listing.proofs.lister.open.Goals as goal
+use Rattle.listing.proofs.lister.make_session.Goals as goal
 
 -- as many initial values as there are inputs
 one_each : (inputs : ℕ) → inputs ≤ 256 → length (take inputs (replicate 256 X)) ≡ inputs

@@ -1,12 +1,11 @@
 -- What is answered of the next record of a stimulus is determined by its bytes.
 use Rattle.std.proofs.Common.{◌≡◌, ℕ, List, ◌∷◌, ◌++◌, Option, None, Some, Result, Ok, Err, sym, refl, ap, ◌∙◌, subst, subst₂}
 use Rattle.deck.specs.Faults.{Told}
-use Rattle.deck.specs.declared.fault.Fault.{Fault}
 use Rattle.deck.specs.Outcomes.{Unended}
 use Rattle.deck.specs.Tests.{FirstFailed, fault_of}
 use Rattle.deck.proofs.Passing.{none_failed, first_failed_one}
 use Rattle.deck.proofs.Records.{ended, cut_one}
-use Rattle.stimulus.specs.Readers.{Place, place, phase_after, Took, answer_of, Outcome, Answers}
+use Rattle.stimulus.specs.Readers.{Place, phase_after, Took, Outcome}
 use Rattle.stimulus.specs.Rows.{text, Legal}
 use Rattle.stimulus.specs.Tests.{tests, Over, Fails}
 use Rattle.stimulus.specs.Tests.Fails.{cut, failed}
@@ -14,7 +13,6 @@ use Rattle.stimulus.specs.declared.entry.Entry.{Entry}
 use Rattle.stimulus.specs.declared.entry.Taken.{Taken}
 use Rattle.stimulus.specs.declared.reader.Phase.{Phase}
 use Rattle.stimulus.specs.declared.reader.Phase.TheVariants.{Given, Done}
-use Rattle.stimulus.specs.declared.reader.StimulusReader.{StimulusReader}
 use Rattle.stimulus.proofs.Texts.{text_unended, text_passes, text_one}
 
 -- bytes begin with one record
@@ -74,9 +72,3 @@ outcome_one p q u (Ok (Some t)) (Err g) a b = absurd (took_not_failed p q t g a 
 outcome_one p q u (Err f) (Ok None) a b = absurd (over_no_fault p.phase p.lines p.at p.rest f b.0 a.0)
 outcome_one p q u (Err f) (Ok (Some v)) a b = absurd (took_not_failed p u v f b a.0)
 outcome_one p q u (Err f) (Err g) a b = (ap Err (fails_one p.phase p.lines p.at p.rest f g a.0 b.0), a.1 ∙ sym b.1)
-
--- the outcome that an answer is
-pub outcome : (r s : StimulusReader) (a : Result (Option Taken) Fault) → Answers r s a → Outcome (place r) (answer_of a) (place s)
-outcome r s (Ok None) answers = (answers.0, ap place answers.1)
-outcome r s (Ok (Some t)) answers = answers
-outcome r s (Err f) answers = (answers.0, ap place answers.1)

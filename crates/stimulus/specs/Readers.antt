@@ -1,5 +1,5 @@
 -- How far a reader of a stimulus has come, and what it answers.
-use Rattle.std.specs.Prelude.{◌≡◌, ℕ, suc, List, ◌∷◌, ◌++◌, Option, None, Some, Result, Ok, Err, MatchOption, MatchResult}
+use Rattle.std.specs.Prelude.{◌≡◌, ℕ, suc, List, ◌∷◌, ◌++◌, Option, None, Some, Result, Ok, Err}
 use Rattle.deck.specs.Faults.{Told, told}
 use Rattle.deck.specs.declared.fault.Fault.{Fault}
 use Rattle.stimulus.specs.Rows.{text, Legal}
@@ -42,13 +42,9 @@ abbrev pub answer_of : Result (Option Taken) Fault → Result (Option Taken) Tol
 answer_of (Ok taken) = Ok taken
 answer_of (Err f) = Err (told f)
 
--- what may be answered at a place, and the place then
+-- What may be answered at a place, and the place then: a record is taken, or none is left, or it is told how the next one
+-- fails.
 abbrev pub Outcome : Place → Result (Option Taken) Told → Place → Type 0
 Outcome p (Ok None) q = Over p.phase p.rest × (q ≡ p)
 Outcome p (Ok (Some t)) q = Took p q t
 Outcome p (Err f) q = Fails p.phase p.lines p.at p.rest f × (q ≡ p)
-
--- a record is taken, or none is left, or it is told how the next one fails
-abbrev pub Answers : StimulusReader → StimulusReader → Result (Option Taken) Fault → Type 0
-Answers r s answer = MatchResult answer (λ taken. MatchOption taken (Over (place r).phase (place r).rest × (s ≡ r)) (λ t. Took (place r) (place s) t))
-    (λ f. Fails (place r).phase (place r).lines (place r).at (place r).rest (told f) × (s ≡ r))

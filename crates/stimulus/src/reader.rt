@@ -26,10 +26,10 @@ pub struct StimulusReader<'a> {
 }
 
 impl<'a> StimulusReader<'a> {
-    ghost use Rattle.std.specs.Prelude.{◌≡◌, ◌-◌, min, Option, Result, MatchResult};
+    ghost use Rattle.std.specs.Prelude.{◌≡◌, ◌-◌, min, Option, Result, MatchResult, OnErr};
     ghost use Rattle.deck.specs.Faults.{Told};
     ghost use Rattle.deck.specs.Records.{Failed};
-    ghost use Rattle.stimulus.specs.Readers.{Place, place, answer_of, Outcome, Answers};
+    ghost use Rattle.stimulus.specs.Readers.{Place, place, answer_of, Outcome};
     ghost use Rattle.stimulus.specs.Rows.{text, Legal};
     ghost use Rattle.stimulus.specs.Tests.{tests};
     ghost use Rattle.stimulus.specs.declared.entry.Taken.{Taken};
@@ -83,7 +83,8 @@ impl<'a> StimulusReader<'a> {
 
     // Takes the next record; there is none once the end was taken and no byte follows. A fault alters nothing.
     pub fn next(&mut self) -> Result<Option<Taken>, Fault>
-        ensures answers { Answers self.old self.new result }
+        ensures answers { Outcome (place self.old) (answer_of result) (place self.new) }
+        ensures refused { OnErr result (self.new ≡ self.old) }
         ensures only { (a : Result (Option Taken) Told) (p : Place) → Outcome (place self.old) a p → (a ≡ answer_of result) × (p ≡ place self.new) }
     {
         if self.phase == Phase::Done && self.rest.is_empty() {

@@ -7,16 +7,15 @@ use Rattle.engine.specs.Sessions.{KeepsItsOwn}
 use Rattle.netlist.specs.Closed.{circuit}
 use Rattle.netlist.specs.Refusals.{number}
 use Rattle.semantics.specs.Circuits.{lines}
-use Rattle.stimulus.specs.Readers.{Place, place}
+use Rattle.stimulus.specs.Readers.{Place, place, Outcome}
+use Rattle.stimulus.specs.declared.entry.Taken.{Taken}
 use Rattle.stimulus.specs.declared.entry.Entry.TheVariants.{End}
 use Rattle.listing.proofs.Giving.{begun, went_on, refused, all_given, stopped}
 use Rattle.listing.proofs.lister.give_all.Goals as goal
 
-some_is : {A : Type 0} (x : Option A) (y : A) (P : Type 0) (Q : A → Type 0) → x ≡ Some y → MatchOption x P Q → Q y
-some_is x y P Q is m = subst (λ z. MatchOption z P Q) is m
-
-none_is : {A : Type 0} (x : Option A) (P : Type 0) (Q : A → Type 0) → x ≡ None → MatchOption x P Q → P
-none_is x P Q is m = subst (λ z. MatchOption z P Q) is m
+-- what was answered, as it was found to be
+answered : (p q : Place) (x y : Option Taken) → x ≡ y → Outcome p (Ok x) q → Outcome p (Ok y) q
+answered p q x y is outcome = subst (λ z. Outcome p (Ok z) q) is outcome
 
 pub loop-taken-init : goal.loop-taken-init
 loop-taken-init c =
@@ -27,7 +26,7 @@ loop-taken-init c =
 
 pub loop-taken-preserved : goal.loop-taken-preserved
 loop-taken-preserved c =
-    let took = some_is _ c.in-Some.taken _ _ c.in-Some.is c.in_ok-taken.ensures.answers in
+    let took = answered (place c.loop-taken.reader) (place c.next.new.self) _ (Some c.in-Some.taken) c.in-Some.is c.in_ok-taken.ensures.answers in
     went_on c.args.session.now c.args.stimulus.now c.args.first c.loop-taken.session (place c.loop-taken.reader) c.loop-taken.invariant (place c.next.new.self) c.in-Some.taken took c.give.new.session (numbered c.give.result) (ap numbered c.in_default-give.is)
     c.give.ensures.keeps (λ is. (c.give.ensures.ends is).1) (λ given. c.give.ensures.answers given)
 
@@ -45,7 +44,7 @@ returns-in-Err-clause-keeps c = subst (KeepsItsOwn c.args.session.now) (sym c.in
 
 pub returns-in-Err-clause-answers : goal.returns-in-Err-clause-answers
 returns-in-Err-clause-answers c a stands =
-    let took = some_is _ c.in-Some.taken _ _ c.in-Some.is c.in_ok-taken.ensures.answers in
+    let took = answered (place c.loop-taken.reader) (place c.next.new.self) _ (Some c.in-Some.taken) c.in-Some.is c.in_ok-taken.ensures.answers in
     let no_end : c.in-Some.taken.entry ≡ End → ⊥ = λ is. let both = (c.in-Err.ensures.ends is).0 in cc in
     refused c.args.session.now c.args.stimulus.now c.args.first c.loop-taken.session (place c.loop-taken.reader) c.loop-taken.invariant (place c.next.new.self) c.in-Some.taken took c.give.new.session (number c.in-Err.refusal)
     (record { refusal = c.in-Err.refusal; layer = Layer.Session; «record» = c.in-Some.taken.«record»; column = 1 })
@@ -56,5 +55,5 @@ returns-clause-keeps c = c.loop-taken.invariant.under.keeps
 
 pub returns-clause-answers : goal.returns-clause-answers
 returns-clause-answers c a stands =
-    let over = none_is _ _ _ c.in_default.is c.in_ok-taken.ensures.answers in
+    let over = answered (place c.loop-taken.reader) (place c.next.new.self) _ None c.in_default.is c.in_ok-taken.ensures.answers in
     all_given c.args.session.now c.args.stimulus.now c.args.first c.loop-taken.session (place c.loop-taken.reader) c.loop-taken.invariant over.0 a stands

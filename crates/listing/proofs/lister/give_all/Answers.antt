@@ -1,4 +1,4 @@
-use Rattle.std.proofs.Common.{◌≡◌, ◌-◌, min, length, Option, None, Some, MatchOption, sym, ap, ◌∙◌, subst, arith}
+use Rattle.std.proofs.Common.{Ok, ◌≡◌, ◌-◌, min, length, Option, None, Some, sym, ap, ◌∙◌, subst, arith}
 use Rattle.deck.specs.Faults.{told}
 use Rattle.deck.specs.declared.fault.Layer.{Layer}
 use Rattle.deck.proofs.Exits.{carried}

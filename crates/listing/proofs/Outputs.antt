@@ -6,6 +6,9 @@ use Rattle.std.proofs.lemmas.List.Sums.{AllPass-from_list_all}
 use Rattle.std.specs.Int.{is_in_range}
 use Rattle.std.specs.List.{AllByRecursion}
 use Rattle.std.proofs.lemmas.Bool.{and_parts}
+use Rattle.engine.specs.Sessions.{lines_of, netlist_of}
+use Rattle.engine.specs.declared.session.Session.{Session}
+use Rattle.engine.proofs.Books.{line_of}
 use Rattle.netlist.specs.Closed.{circuit, Output}
 use Rattle.netlist.specs.declared.closed.Netlist.{Netlist}
 use Rattle.netlist.proofs.Ranges.{bounds}
@@ -16,9 +19,10 @@ use Rattle.semantics.specs.Circuits.{lines, topology}
 use Rattle.semantics.proofs.Wiring.{a_line}
 use Rattle.semantics.specs.Machines.{Machine, IsLine}
 use Rattle.values.specs.declared.ternary.Ternary.{Ternary}
+use Rattle.listing.specs.Listers.{machine_in}
 use Rattle.listing.specs.Listings.{LineRows, RowsOf}
 
-pub output_in_range : (n : Netlist) (place line : ℕ) → Output (circuit n) place (Some line) → (0 < line) × (line ≤ lines (circuit n))
+output_in_range : (n : Netlist) (place line : ℕ) → Output (circuit n) place (Some line) → (0 < line) × (line ≤ lines (circuit n))
 output_in_range n place line output =
     let all : is_in_range 1 (n.size.inputs + n.size.gates) (get_or (circuit n).outputs place 0) ≡ true = AllPass-from_list_all (is_in_range 1 (n.size.inputs + n.size.gates)) (circuit n).outputs n.ends_on_lines place 0 output.0 in
     let range = bounds 1 (n.size.inputs + n.size.gates) (get_or (circuit n).outputs place 0) all in
@@ -44,7 +48,7 @@ module _ (s : Machine Ternary) (a : Account Ternary) where
   first_of : (n : ℕ) (ns : List ℕ) {text : List ℕ} → RowsOf s a (n ∷ ns) text → First n ns text
   first_of n ns (RowsOf.next {rows = rows} {text = text} line left) = record { rows = rows; line = line; others = text; left = left; is = refl }
 
-  pub next_line : (ns : List ℕ) (place n : ℕ) (text : List ℕ) → place < length ns → get_or ns place 0 ≡ n → RowsOf s a (drop place ns) text → First n (drop (place + 1) ns) text
+  next_line : (ns : List ℕ) (place n : ℕ) (text : List ℕ) → place < length ns → get_or ns place 0 ≡ n → RowsOf s a (drop place ns) text → First n (drop (place + 1) ns) text
   next_line ns place n text within is rows =
       first_of n (drop (place + 1) ns) (subst (λ ms. RowsOf s a ms text) (drop_more ns place 0 within ∙ ap (λ m. m ∷ drop (place + 1) ns) is) rows)
 
@@ -75,3 +79,8 @@ outputs_are_lines n = all_lines (circuit n) (circuit n).outputs (subst (λ k. on
 
 pub few_lines : (n : Netlist) → lines (circuit n) ≤ 1024
 few_lines n = let inputs = n.places.few_inputs in let gates = n.places.few_gates in omega (arith, count_gates n)
+
+-- the line that an output names, and its rows
+pub next_output : (t : Session Ternary) (a : Account Ternary) (place line : ℕ) (text : List ℕ) → Output (circuit (netlist_of t)) place (Some line) → RowsOf (machine_in t) a (drop place (lines_of t).circuit.outputs) text → IsLine (machine_in t).topology line × First (machine_in t) a line (drop (place + 1) (lines_of t).circuit.outputs) text
+next_output t a place line text output rows =
+    (line_of (lines_of t) line (output_in_range (netlist_of t) place line output), next_line (machine_in t) a (lines_of t).circuit.outputs place line text output.0 output.1 rows)

@@ -3,11 +3,10 @@ use Rattle.std.proofs.lemmas.List.{length-drop}
 use Rattle.std.specs.Io.KnownBytes.{Appends}
 use Rattle.std.proofs.KnownBytes.{Appends-nil, Appends-trans}
 use Rattle.deck.proofs.Exits.{carried}
-use Rattle.engine.specs.Sessions.{lines_of, netlist_of}
-use Rattle.engine.proofs.Books.{line_of}
+use Rattle.engine.specs.Sessions.{lines_of}
 use Rattle.netlist.specs.Closed.{circuit, Output}
 use Rattle.listing.specs.Listers.{machine_in}
-use Rattle.listing.proofs.Outputs.{output_in_range, next_line, none_left}
+use Rattle.listing.proofs.Outputs.{next_output, none_left}
 use Rattle.listing.proofs.Putting.{stopped_within}
 use Rattle.listing.proofs.lister.list_outputs.Goals as goal
 
@@ -16,16 +15,15 @@ loop-place-init g c a stands text rows = record { done = []; left = text; split 
 
 pub loop-place-preserved : goal.loop-place-preserved
 loop-place-preserved g c a stands text rows =
-    let p = lines_of c.args.session.now in
-    let output = subst (λ n. Output (circuit n) c.loop-place.place (Some c.in-Some.line)) c.netlist-in-loop-place.ensures.is_its_netlist c.in-Some.ensures in
-    let line = line_of p c.in-Some.line (output_in_range (netlist_of c.args.session.now) c.loop-place.place c.in-Some.line output) in
     let before = c.loop-place.invariant a stands text rows in
-    let first = next_line (machine_in c.args.session.now) a p.circuit.outputs c.loop-place.place c.in-Some.line before.left output.0 output.1 before.rows in
+    let output = subst (λ n. Output (circuit n) c.loop-place.place (Some c.in-Some.line)) c.netlist-in-loop-place.ensures.is_its_netlist c.in-Some.ensures in
+    let next = next_output c.args.session.now a c.loop-place.place c.in-Some.line before.left output before.rows in
+    let first = next.1 in
     record {
       done = before.done ++ first.rows;
       left = first.others;
       split = before.split ∙ ap (λ l. before.done ++ l) first.is ∙ sym (append_assoc before.done first.rows first.others);
-      took = Appends-trans _ _ _ _ _ before.took (c.in_ok-list_line.ensures a stands line first.rows first.line);
+      took = Appends-trans _ _ _ _ _ before.took (c.in_ok-list_line.ensures a stands next.0 first.rows first.line);
       rows = first.left;
     }
 
@@ -36,13 +34,12 @@ returns-in_default g c a stands text rows =
 
 pub returns-in_err-list_line : goal.returns-in_err-list_line
 returns-in_err-list_line g c a stands text rows =
-    let p = lines_of c.args.session.now in
-    let output = subst (λ n. Output (circuit n) c.loop-place.place (Some c.in-Some.line)) c.netlist-in-loop-place.ensures.is_its_netlist c.in-Some.ensures in
-    let line = line_of p c.in-Some.line (output_in_range (netlist_of c.args.session.now) c.loop-place.place c.in-Some.line output) in
     let before = c.loop-place.invariant a stands text rows in
-    let first = next_line (machine_in c.args.session.now) a p.circuit.outputs c.loop-place.place c.in-Some.line before.left output.0 output.1 before.rows in
+    let output = subst (λ n. Output (circuit n) c.loop-place.place (Some c.in-Some.line)) c.netlist-in-loop-place.ensures.is_its_netlist c.in-Some.ensures in
+    let next = next_output c.args.session.now a c.loop-place.place c.in-Some.line before.left output before.rows in
+    let first = next.1 in
     carried c.from_residual.result c.in_err-list_line.field-0.0 _ _ c.from_residual.ensures.1
-    (stopped_within g.S.Sink.contents g.S.Sink.Refuses c.args.out.now c.loop-place.out before.done first.rows first.others text (before.split ∙ ap (λ l. before.done ++ l) first.is) before.took (c.in_err-list_line.ensures a stands line first.rows first.line))
+    (stopped_within g.S.Sink.contents g.S.Sink.Refuses c.args.out.now c.loop-place.out before.done first.rows first.others text (before.split ∙ ap (λ l. before.done ++ l) first.is) before.took (c.in_err-list_line.ensures a stands next.0 first.rows first.line))
 
 pub returns : goal.returns
 returns g c a stands text rows =

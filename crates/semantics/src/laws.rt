@@ -84,7 +84,8 @@ pub fn settled_times_are_bounded<V: ValueSystem>()
     ensures in_every_log { (c : Circuit) (room : ℕ) → Wired c → AllReached c → SettledTimesAreBounded (machine V.system c room) (2000000000 + 65535 * lines c) }
 {}
 
-// If every gate is reached by an input, the takes made one after another are at most that many for each gate.
+// If every gate is reached by an input, the takes made one after another are for each gate at most as many as there are ticks
+// up to there: each moves its front by one or more.
 pub fn takes_are_bounded<V: ValueSystem>()
     ensures in_every_log { (c : Circuit) (room : ℕ) → Wired c → AllReached c → TakesAreBounded (machine V.system c room) (length c.gates * (2000000000 + 65535 * lines c)) }
 {}

@@ -5,6 +5,7 @@ use crate::source::MOST_BYTES;
 use crate::stop::Stop;
 use deck::fault::{Fault, Layer};
 use engine::session::{Ending, Ran, Session};
+use netlist::refusal::Refusal;
 use std::io;
 use stimulus::entry::{Entry, Taken};
 use waveforms::level::Shown;
@@ -21,11 +22,12 @@ pub enum Cut {
 // How many takes are made after each record of a job in pieces.
 const FEW: u32 = 2;
 
-// Gives what a record says.
+// Gives what a record says. That a line is no input is refused before its value is looked at.
 fn give<V: Shown>(session: &mut Session<V>, record: usize, entry: Entry) -> Result<(), Stop> {
     let given = match entry {
         Entry::Feed { line, tick, value } => match V::named(value) {
             Some(value) => session.feed(line, tick, value),
+            None if line as usize > session.netlist().inputs() => Err(Refusal::Line),
             None => return Err(Stop::Unnamed { record }),
         },
         Entry::Hold { line, tick } => session.hold(line, tick),

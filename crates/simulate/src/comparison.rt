@@ -5,8 +5,7 @@ use crate::job::Job;
 use crate::narrator::Narrator;
 use crate::stop::Stop;
 use engine::session::Session;
-use netlist::refusal::Refusal;
-use std::io;
+use std::alloc::Global;
 use values::bit::Bit;
 use values::lane::Lane;
 use values::lanes::Lanes;
@@ -29,12 +28,38 @@ pub fn compare_cuts<V: Shown, R: Print + AllocGlobal>(
     let mut desk = Desk::<V>::new(narrator.rt.alloc(), job)?;
     let mut other = desk.session(job);
     carry_out(narrator, job, Cut::Pieces, &mut other)?;
-    if session.same_store(&other) {
-        narrator.tell("compares both: their stores are the same, as they must be")?;
-    } else {
-        narrator.tell("compares both: their stores differ, which must not be")?;
+    if !session.same_store(&other) {
+        return Err(Stop::Differs);
+    }
+    narrator.tell("compares both: their stores are the same, as they must be")?;
+    Ok(())
+}
+
+// Adds the ticks at which a line of a session changes.
+fn add_ticks<V: ValueSystem>(
+    ticks: &mut Vec<u32>,
+    session: &Session<V>,
+    line: u32,
+) -> Result<(), Stop> {
+    for k in 0..session.state(line)?.kept {
+        ticks.push(session.event(line, k)?.tick)?;
     }
     Ok(())
+}
+
+// Tick 0, and the ticks at which a line changes in one of the sessions, each once; in between both keep their values.
+fn ticks<V: ValueSystem, W: ValueSystem>(
+    alloc: Global,
+    left: &Session<V>,
+    right: &Session<W>,
+    line: u32,
+) -> Result<Vec<u32>, Stop> {
+    let mut ticks = vec![in alloc; 0; 1]?;
+    add_ticks(&mut ticks, left, line)?;
+    add_ticks(&mut ticks, right, line)?;
+    ticks.sort_unstable();
+    ticks.dedup();
+    Ok(ticks)
 }
 
 // How many values of lines were compared, and how many of them are tied.
@@ -50,27 +75,17 @@ impl Tally {
         self.tied = self.tied.saturating_add(tied as u64);
     }
 
-    // The values of a line at tick 0, and where it changes in one of the sessions; in between both keep theirs.
+    // The values of a line that are settled in both sessions.
     fn compare_line<V: ValueSystem, W: ValueSystem, L: Relation<V, W>>(
         &mut self,
+        alloc: Global,
         relation: &L,
         left: &Session<V>,
         right: &Session<W>,
         line: u32,
-    ) -> Result<(), Refusal> {
-        let (seen, other) = (left.state(line)?, right.state(line)?);
-        let end = seen.settled.min(other.settled);
-        if end > 0 {
-            self.note(left.tied(relation, right, line, 0)?);
-        }
-        for k in 0..seen.kept {
-            let tick = left.event(line, k)?.tick;
-            if tick < end {
-                self.note(left.tied(relation, right, line, tick)?);
-            }
-        }
-        for k in 0..other.kept {
-            let tick = right.event(line, k)?.tick;
+    ) -> Result<(), Stop> {
+        let end = left.state(line)?.settled.min(right.state(line)?.settled);
+        for tick in ticks(alloc, left, right, line)? {
             if tick < end {
                 self.note(left.tied(relation, right, line, tick)?);
             }
@@ -81,20 +96,26 @@ impl Tally {
     // The values of all lines.
     fn compare<V: ValueSystem, W: ValueSystem, L: Relation<V, W>>(
         &mut self,
+        alloc: Global,
         relation: &L,
         left: &Session<V>,
         right: &Session<W>,
-    ) -> Result<(), Refusal> {
+    ) -> Result<(), Stop> {
         let lines = left.netlist().lines() as u32;
         for line in 1..=lines {
-            self.compare_line(relation, left, right, line)?;
+            self.compare_line(alloc, relation, left, right, line)?;
         }
         Ok(())
     }
 
-    fn tell<R: Print + AllocGlobal>(self, narrator: &Narrator<R>) -> io::Result<()> {
+    // Tells what was found; all values must be tied.
+    fn tell<R: Print + AllocGlobal>(self, narrator: &Narrator<R>) -> Result<(), Stop> {
         let Tally { compared, tied } = self;
-        narrator.tell(format_args!("compares both: {compared} values, {tied} of them tied"))
+        narrator.tell(format_args!("compares both: {compared} values, {tied} of them tied"))?;
+        if tied < compared {
+            return Err(Stop::Untied { compared, tied });
+        }
+        Ok(())
     }
 }
 
@@ -142,9 +163,8 @@ impl Related for Bit {
             return without_comparison(narrator, stop);
         }
         let mut tally = Tally::default();
-        tally.compare(&StandsFor, &other, session)?;
-        tally.tell(narrator)?;
-        Ok(())
+        tally.compare(narrator.rt.alloc(), &StandsFor, &other, session)?;
+        tally.tell(narrator)
     }
 }
 
@@ -162,10 +182,9 @@ impl Related for Lanes {
         let mut tally = Tally::default();
         for place in 0..64 {
             if let Some(lane) = Lane::new(place) {
-                tally.compare(&lane, session, &other)?;
+                tally.compare(narrator.rt.alloc(), &lane, session, &other)?;
             }
         }
-        tally.tell(narrator)?;
-        Ok(())
+        tally.tell(narrator)
     }
 }

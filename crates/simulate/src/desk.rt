@@ -17,11 +17,15 @@ impl<V: Shown> Desk<V> {
     // A desk at which a session of the job can be made.
     pub fn new(alloc: Global, job: &Job) -> Result<Desk<V>, Stop> {
         let netlist = job.netlist();
+        let (records, needed) = (job.records, netlist.lines().saturating_mul(2));
+        if records < needed {
+            return Err(Stop::Store { records, needed });
+        }
         let blank = EventRecord {
             tick: 0,
             value: V::START,
         };
-        let store = vec![in alloc; blank; job.records]?;
+        let store = vec![in alloc; blank; records]?;
         let starts = vec![in alloc; V::START; netlist.inputs()]?;
         Session::check(&netlist, &store, &starts)?;
         Ok(Desk { store, starts })

@@ -4,7 +4,7 @@ use netlist::refusal::Refusal;
 pub fn of(refusal: Refusal) -> &'static str {
     match refusal {
         Refusal::Cut => "the bytes end inside a record, or before the end record",
-        Refusal::Letter => "an empty record, or one out of order",
+        Refusal::Letter => "an empty record, an unknown letter, or a record out of order",
         Refusal::Length => "a record has a length that its letter does not allow",
         Refusal::Figure => "the columns of a field are no number",
         Refusal::Range => "a number is outside its limits, or no line of the netlist",
@@ -13,14 +13,11 @@ pub fn of(refusal: Refusal) -> &'static str {
             "an unknown kind or value, or a count of inputs that the kind does not take",
         Refusal::Open => "gates or outputs are missing",
         Refusal::Free => "no input reaches the gate",
-        Refusal::Store => "the store has fewer than two records a line",
-        Refusal::Starts => "there is not one initial value an input",
         Refusal::Line => "the line is no input",
         Refusal::Past => "the tick is below what the line was given already",
         Refusal::Late => "the tick is beyond the last that can be given",
-        Refusal::Unsettled => "the line is not settled there",
         Refusal::Full => "there is no room for another change of the line (--store keeps more)",
-        Refusal::Idle => "the gate's front is at its goal",
-        Refusal::None => "there is no such change",
+        // What no record is refused for.
+        other => other.word(),
     }
 }

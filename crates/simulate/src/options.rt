@@ -2,14 +2,15 @@
 use crate::stop::Stop;
 use std::alloc::AllocError;
 use std::rt::Runtime;
-use std::{env, fmt};
+use std::{env, fmt, io};
 use thiserror::Error;
 
 pub const HELP: &str = "\
 simulate [OPTIONS] [FILE]
 
-Simulates the deck and the stimulus in FILE, or on standard input: at most 32,768 bytes. Tells each action, lists the
-changes of the outputs, draws the inputs and the outputs, and does the job again, cut and ordered otherwise, to compare.
+Simulates the deck and the stimulus in FILE, or on standard input where there is none or it is -: at most 32,768 bytes.
+Tells each action, lists the changes of the outputs, draws the inputs and the outputs, and does the job again, cut and
+ordered otherwise, to compare.
 
   --quiet          prints the listing only; at a fault only its row
   --store N        keeps N records for the lines, 2 to 1,048,576 (4,096 where it is not told)
@@ -17,12 +18,16 @@ changes of the outputs, draws the inputs and the outputs, and does the job again
   --vcd PATH       writes the changes of all lines to PATH, as a value change dump
   --help           prints this
 
-The status is 0, or 1 where the deck or the stimulus has a fault, and where the job cannot be done.
+The status is 0, or 1 where the deck or the stimulus has a fault, where the job cannot be done, and where what must agree
+does not.
 ";
 
 const MOST_RECORDS: usize = 1_048_576;
 
 const RECORDS: usize = 4_096;
+
+// The word that stands for standard input where a file is named.
+pub const STANDARD: &str = "-";
 
 #[derive(Clone, Copy, PartialEq, Eq, Debug)]
 pub enum System {
@@ -72,6 +77,10 @@ pub enum Misuse {
     System(String),
     #[error("{0} is a second file, and only one is read")]
     SecondFile(String),
+    #[error("--vcd names the file that the deck is in")]
+    Overwriting,
+    #[error("an argument is no text")]
+    NoText,
 }
 
 #[derive(Debug, Drop)]
@@ -96,8 +105,11 @@ impl Options {
         }
     }
 
-    // Takes the value after a flag.
+    // Takes the value after a flag. A word that begins as an option does is none.
     fn set(&mut self, flag: Flag, value: String) -> Result<(), Misuse> {
+        if value.starts_with("-") {
+            return Err(Misuse::Unfinished(flag));
+        }
         match flag {
             Flag::Store => self.records = read_records(value)?,
             Flag::System => self.system = read_system(value)?,
@@ -114,17 +126,30 @@ impl Options {
             "--store" => return Ok(Some(Flag::Store)),
             "--system" => return Ok(Some(Flag::System)),
             "--vcd" => return Ok(Some(Flag::Vcd)),
-            text if text.starts_with("-") && text.len() > 1 => return Err(Misuse::Unknown(word)),
+            text if text.starts_with("-") && text != STANDARD => return Err(Misuse::Unknown(word)),
             _ if self.file.is_some() => return Err(Misuse::SecondFile(word)),
             _ => self.file = Some(word),
         }
         Ok(None)
     }
+
+    // The dump must not go where the deck comes from, as far as their paths tell.
+    fn check(&self) -> Result<(), Misuse> {
+        match (&self.dump, &self.file) {
+            (Some(dump), Some(file)) if dump == file => Err(Misuse::Overwriting),
+            _ => Ok(()),
+        }
+    }
+}
+
+// Whether a text is decimal digits, of which the first is not 0.
+fn is_number(text: &str) -> bool {
+    !text.starts_with("0") && text.bytes().all(|byte| byte.is_ascii_digit())
 }
 
 fn read_records(text: String) -> Result<usize, Misuse> {
     match text.parse::<usize>() {
-        Ok(records) if (2..=MOST_RECORDS).contains(&records) => Ok(records),
+        Ok(records) if is_number(&text) && (2..=MOST_RECORDS).contains(&records) => Ok(records),
         _ => Err(Misuse::Store(text)),
     }
 }
@@ -138,11 +163,19 @@ fn read_system(text: String) -> Result<System, Misuse> {
     }
 }
 
+// Why the arguments cannot be had.
+fn no_words(error: io::Error) -> Stop {
+    match error.kind() {
+        io::ErrorKind::InvalidData => Misuse::NoText.into(),
+        _ => Stop::Memory(AllocError),
+    }
+}
+
 // Reads the options from the program's arguments.
 pub fn read<R: Runtime + AllocGlobal>(rt: &R) -> Result<Options, Stop> {
     let mut options = Options::new();
     let mut flag = None;
-    for word in env::args(rt)?.skip(1) {
+    for word in env::args(rt).map_err(no_words)?.skip(1) {
         flag = match flag {
             Some(flag) => {
                 options.set(flag, word)?;
@@ -151,8 +184,9 @@ pub fn read<R: Runtime + AllocGlobal>(rt: &R) -> Result<Options, Stop> {
             None => options.take(word)?,
         };
     }
-    match flag {
-        Some(flag) => Err(Misuse::Unfinished(flag).into()),
-        None => Ok(options),
+    if let Some(flag) = flag {
+        return Err(Misuse::Unfinished(flag).into());
     }
+    options.check()?;
+    Ok(options)
 }

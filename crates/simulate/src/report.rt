@@ -70,17 +70,26 @@ fn list_change<V: Shown, W: Write>(out: &mut W, change: EventRecord<V>) -> io::R
     }
 }
 
+// Lists a line with its changes.
+fn list_output<V: Shown, W: Write>(
+    out: &mut W,
+    session: &Session<V>,
+    line: u32,
+) -> Result<(), Stop> {
+    let state = session.state(line)?;
+    list_line(out, line, state)?;
+    for k in 0..state.kept {
+        list_change(out, session.event(line, k)?)?;
+    }
+    Ok(())
+}
+
 // Lists the outputs with their changes.
 pub fn list<V: Shown, W: Write>(out: &mut W, session: &Session<V>) -> Result<(), Stop> {
     let netlist = session.netlist();
     for place in 0..netlist.outputs() {
-        let Some(line) = netlist.output(place) else {
-            break;
-        };
-        let state = session.state(line)?;
-        list_line(out, line, state)?;
-        for k in 0..state.kept {
-            list_change(out, session.event(line, k)?)?;
+        if let Some(line) = netlist.output(place) {
+            list_output(out, session, line)?;
         }
     }
     Ok(())
@@ -100,23 +109,38 @@ fn tell_row<V: Shown, R: Print + AllocGlobal>(
     Ok(())
 }
 
+// Tells what the marks mean, and the ticks of the first column, of the middle and of the end.
+fn tell_scale<R: Print + AllocGlobal>(narrator: &Narrator<R>, scale: Scale) -> io::Result<()> {
+    let ticks = scale.ticks;
+    let (middle, last) = (scale.tick(COLUMNS / 2), scale.tick(COLUMNS));
+    narrator.tell(
+        "draws the inputs and the outputs: _ is 0, ~ is 1, ? is X, = is a mixed word, # is several changes",
+    )?;
+    narrator.tell(format_args!("ticks a column: {ticks}"))?;
+    narrator.tell(format_args!("{:>10} {:<30}{middle:<20}{last:>10}", "tick", 0))
+}
+
+// Draws the inputs.
+fn tell_inputs<V: Shown, R: Print + AllocGlobal>(
+    narrator: &Narrator<R>,
+    session: &Session<V>,
+    scale: Scale,
+) -> Result<(), Stop> {
+    for line in 1..=session.netlist().inputs() as u32 {
+        tell_row(narrator, session, line, scale)?;
+    }
+    Ok(())
+}
+
 // Draws the inputs and the outputs.
 pub fn tell_waves<V: Shown, R: Print + AllocGlobal>(
     narrator: &Narrator<R>,
     session: &Session<V>,
 ) -> Result<(), Stop> {
-    let netlist = session.netlist();
     let scale = Scale::fitting(session);
-    let ticks = scale.ticks;
-    let (middle, last) = (scale.tick(COLUMNS / 2), scale.tick(COLUMNS));
-    narrator.tell(
-        "draws the inputs and the outputs: _ is 0, ~ is 1, ? is X, # is several changes",
-    )?;
-    narrator.tell(format_args!("ticks a column: {ticks}"))?;
-    narrator.tell(format_args!("{:>10} {:<30}{middle:<22}{last:>8}", "tick", 0))?;
-    for line in 1..=netlist.inputs() as u32 {
-        tell_row(narrator, session, line, scale)?;
-    }
+    tell_scale(narrator, scale)?;
+    tell_inputs(narrator, session, scale)?;
+    let netlist = session.netlist();
     for place in 0..netlist.outputs() {
         if let Some(line) = netlist.output(place) {
             tell_row(narrator, session, line, scale)?;

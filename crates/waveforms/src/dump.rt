@@ -1,5 +1,5 @@
 // The value change dump of a session, which GTKWave and other wave viewers open.
-use crate::history::{changes, end, initial, lines, state};
+use crate::history::{Change, changes, end, initial, lines, state};
 use crate::level::{Level, Shown};
 use crate::name::Name;
 use engine::session::Session;
@@ -31,11 +31,23 @@ impl fmt::Display for Code {
     }
 }
 
-// A line that has a value from now on.
+// A line of so many bits that has a value from now on.
 #[derive(Clone, Copy)]
 struct Assignment {
     code: Code,
+    width: u32,
     level: Level,
+}
+
+impl Assignment {
+    // Where there is no value, it is not known.
+    fn of<V: Shown>(line: u32, value: Option<V>) -> Assignment {
+        Assignment {
+            code: Code { line },
+            width: V::WIDTH,
+            level: value.map_or(Level::Unknown, |value| value.level()),
+        }
+    }
 }
 
 impl fmt::Display for Assignment {
@@ -44,22 +56,27 @@ impl fmt::Display for Assignment {
         match self.level {
             Level::Low => write!(f, "0{code}"),
             Level::High => write!(f, "1{code}"),
+            Level::Unknown if self.width > 1 => write!(f, "bx {code}"),
             Level::Unknown => write!(f, "x{code}"),
             Level::Word(word) => write!(f, "b{word:b} {code}"),
         }
     }
 }
 
-// Declares the lines, and once more, by the same codes, those that are outputs.
-fn declare<V: Shown, W: Write>(out: &mut W, session: &Session<V>) -> io::Result<()> {
-    let netlist = session.netlist();
+// Declares the lines.
+fn declare_lines<V: Shown, W: Write>(out: &mut W, session: &Session<V>) -> io::Result<()> {
     let width = V::WIDTH;
-    writeln!(out, "$scope module netlist $end")?;
     for line in 1..=lines(session) {
-        let (code, name) = (Code { line }, Name::of(netlist, line));
+        let (code, name) = (Code { line }, Name::of(session.netlist(), line));
         writeln!(out, "$var wire {width} {code} {name} $end")?;
     }
-    writeln!(out, "$scope module outputs $end")?;
+    Ok(())
+}
+
+// Declares the outputs by the codes of their lines.
+fn declare_outputs<V: Shown, W: Write>(out: &mut W, session: &Session<V>) -> io::Result<()> {
+    let netlist = session.netlist();
+    let width = V::WIDTH;
     for place in 0..netlist.outputs() {
         if let Some(line) = netlist.output(place) {
             let (code, name) = (Code { line }, Name::of(netlist, line));
@@ -67,6 +84,15 @@ fn declare<V: Shown, W: Write>(out: &mut W, session: &Session<V>) -> io::Result<
             writeln!(out, "$var wire {width} {code} out{number}_{name} $end")?;
         }
     }
+    Ok(())
+}
+
+// Declares the lines, and once more those that are outputs.
+fn declare<V: Shown, W: Write>(out: &mut W, session: &Session<V>) -> io::Result<()> {
+    writeln!(out, "$scope module netlist $end")?;
+    declare_lines(out, session)?;
+    writeln!(out, "$scope module outputs $end")?;
+    declare_outputs(out, session)?;
     writeln!(out, "$upscope $end")?;
     writeln!(out, "$upscope $end")
 }
@@ -86,14 +112,13 @@ fn begin<V: Shown, W: Write>(out: &mut W, session: &Session<V>) -> io::Result<()
     writeln!(out, "#0")?;
     writeln!(out, "$dumpvars")?;
     for line in 1..=lines(session) {
-        let code = Code { line };
-        let level = initial(session, line).level();
-        writeln!(out, "{}", Assignment { code, level })?;
+        let first = initial(session, line);
+        writeln!(out, "{}", Assignment::of(line, Some(first)))?;
     }
     writeln!(out, "$end")
 }
 
-// All changes, after the tick of each that differs from the one before, and the end.
+// All changes, after the tick of each that differs from the one before, and the end where it is later.
 fn tell_changes<V: Shown, W: Write>(
     out: &mut W,
     alloc: Global,
@@ -101,15 +126,18 @@ fn tell_changes<V: Shown, W: Write>(
 ) -> io::Result<()> {
     let mut now = 0;
     for change in changes(alloc, session)?.iter() {
-        if now != change.tick {
-            now = change.tick;
-            writeln!(out, "#{}", change.tick)?;
+        let Change { tick, line, value } = *change;
+        if now != tick {
+            now = tick;
+            writeln!(out, "#{tick}")?;
         }
-        let code = Code { line: change.line };
-        let level = change.value.level();
-        writeln!(out, "{}", Assignment { code, level })?;
+        writeln!(out, "{}", Assignment::of(line, value))?;
     }
-    writeln!(out, "#{}", end(session))
+    let end = end(session);
+    if now < end {
+        writeln!(out, "#{end}")?;
+    }
+    Ok(())
 }
 
 // Writes the dump of a session that was not trimmed and whose inputs began with START.

@@ -1,9 +1,7 @@
 // Sessions of decks under their stimuli.
 use deck::closing::read_netlist;
-use deck::fault::Fault;
 use engine::session::Session;
 use events::record::EventRecord;
-use netlist::closed::Netlist;
 use netlist::refusal::Refusal;
 use std::alloc::{AllocError, Global};
 use std::test::Fail;
@@ -14,17 +12,12 @@ use waveforms::level::Shown;
 // How many records a session has.
 const RECORDS: usize = 4_096;
 
-pub fn store<V: Shown>(alloc: Global) -> Result<Vec<EventRecord<V>>, AllocError> {
+fn store<V: Shown>(alloc: Global) -> Result<Vec<EventRecord<V>>, AllocError> {
     let blank = EventRecord {
         tick: 0,
         value: V::START,
     };
     vec![in alloc; blank; RECORDS]
-}
-
-// How many bytes of a text its deck takes, and the deck's netlist.
-pub fn netlist(text: &str) -> (Result<usize, Fault>, Netlist) {
-    read_netlist(text.as_bytes())
 }
 
 fn give<V: Shown>(session: &mut Session<V>, entry: Entry) -> Result<(), Refusal> {
@@ -49,4 +42,31 @@ pub fn carry_out<V: Shown>(session: &mut Session<V>, stimulus: &[u8]) -> Result<
     }
     session.run_to_rest();
     Ok(())
+}
+
+// What the session of an example is made from: its deck and its stimulus, a store, and START for each input.
+#[derive(Drop)]
+pub struct Desk<'t, V> {
+    text: &'t [u8],
+    pub stimulus: &'t [u8],
+    store: Vec<EventRecord<V>>,
+    starts: Vec<V>,
+}
+
+impl<'t, V: Shown> Desk<'t, V> {
+    pub fn new(alloc: Global, text: &'t str) -> Result<Desk<'t, V>, Fail> {
+        let text = text.as_bytes();
+        let (used, netlist) = read_netlist(text);
+        Ok(Desk {
+            text,
+            stimulus: text.get(used?..).ok_or("past the end")?,
+            store: store(alloc)?,
+            starts: vec![in alloc; V::START; netlist.inputs()]?,
+        })
+    }
+
+    pub fn session(&mut self) -> Session<'_, V> {
+        let (_, netlist) = read_netlist(self.text);
+        Session::make(netlist, &mut self.store, &self.starts)
+    }
 }

@@ -1,7 +1,6 @@
 // Lines drawn as text.
-use super::base::{carry_out, netlist, store};
+use super::base::{Desk, carry_out};
 use super::examples::{DECODER, FULL, PULSE};
-use engine::session::Session;
 use std::alloc::Global;
 use std::test::Fail;
 use values::ternary::Ternary;
@@ -9,12 +8,10 @@ use waveforms::drawing::{Scale, draw};
 
 // How many ticks a column of the drawing of an example stands for, and the row of a line.
 fn drawn(alloc: Global, text: &str, line: u32) -> Result<(u64, String), Fail> {
-    let (used, netlist) = netlist(text);
-    let stimulus = text.get(used?..).ok_or("past the end")?;
-    let starts = vec![in alloc; Ternary::X; netlist.inputs()]?;
-    let mut store = store::<Ternary>(alloc)?;
-    let mut session = Session::make(netlist, &mut store, &starts);
-    carry_out(&mut session, stimulus.as_bytes())?;
+    let mut desk = Desk::<Ternary>::new(alloc, text)?;
+    let stimulus = desk.stimulus;
+    let mut session = desk.session();
+    carry_out(&mut session, stimulus)?;
     let scale = Scale::fitting(&session);
     let row = draw(&session, line, scale);
     Ok((scale.ticks, format!(in alloc; "{row}")?))

@@ -1,11 +1,11 @@
 // The dumps of sessions.
-use super::base::{carry_out, netlist, store};
+use super::base::{Desk, carry_out};
 use super::examples::{
     ADDER, ADDER_LISTING, DECODER, DECODER_LISTING, FULL, FULL_LISTING, LATCH, LATCH_LISTING,
     PULSE, PULSE_LISTING,
 };
-use super::reader::Dump;
-use engine::session::{LineState, Session};
+use super::reader::{Change, Dump};
+use engine::session::Session;
 use events::record::EventRecord;
 use netlist::refusal::Refusal;
 use std::alloc::Global;
@@ -54,6 +54,10 @@ $end
 0\"
 #13
 0#
+#20
+x!
+#21
+x#
 #22
 ";
 
@@ -83,6 +87,10 @@ b1111111111111111111111111111111111111111111111111111111111111111 #
 b0 \"
 #13
 b0 #
+#20
+bx !
+#21
+bx #
 #22
 ";
 
@@ -101,6 +109,33 @@ fn first<V: Shown>(session: &Session<V>, line: u32) -> Result<V, Refusal> {
     session.value(line, 0)
 }
 
+// That the changes read below its settled time are those of a line.
+fn compare_changes<V: Shown>(
+    rt: &impl Abort,
+    alloc: Global,
+    session: &Session<V>,
+    line: u32,
+    known: &[Change],
+) -> Result<(), Fail> {
+    assert_eq!(rt; known.len(), session.state(line)?.kept, "line {line}");
+    for (k, change) in known.iter().enumerate() {
+        let EventRecord { tick, value } = session.event(line, k)?;
+        let value = format!(in alloc; "{value}")?;
+        assert_eq!(rt; change.tick, tick);
+        assert_eq!(rt; change.value.to_ascii_uppercase(alloc)?, value);
+    }
+    Ok(())
+}
+
+// That the line is not known from its settled time on, where the dump goes on beyond it, and is told so just once.
+fn compare_rest(rt: &impl Abort, settled: u32, end: u32, rest: &[Change]) {
+    assert_eq!(rt; rest.len(), (settled < end) as usize);
+    for Change { tick, value } in rest.iter() {
+        assert_eq!(rt; *tick, settled);
+        assert_eq!(rt; value.as_str(), "x");
+    }
+}
+
 // That the dump tells of each line what the session tells.
 fn compare_lines<V: Shown>(
     rt: &impl Abort,
@@ -115,34 +150,29 @@ fn compare_lines<V: Shown>(
         .enumerate()
     {
         let line = u32::try_from(place)?.saturating_add(1);
-        let LineState { settled, kept } = session.state(line)?;
+        let settled = session.state(line)?.settled;
         let first = first(session, line)?;
         let first = format!(in alloc; "{first}")?;
         let read = variable.first.as_ref().ok_or("no value at first")?;
         assert_eq!(rt; read.to_ascii_uppercase(alloc)?, first);
         assert_eq!(rt; dump.settled(&variable.code), Some(settled));
-        assert_eq!(rt; variable.changes.len(), kept, "line {line}");
-        for (k, change) in variable.changes.iter().enumerate() {
-            let EventRecord { tick, value } = session.event(line, k)?;
-            let value = format!(in alloc; "{value}")?;
-            assert_eq!(rt; change.tick, tick);
-            assert_eq!(rt; change.value.to_ascii_uppercase(alloc)?, value);
-        }
+        let (known, rest) = variable.around(settled);
+        compare_changes(rt, alloc, session, line, known)?;
+        compare_rest(rt, settled, dump.end(), rest);
     }
     Ok(())
 }
 
 // The dump of an example in a value system, whose inputs begin with START; it agrees with the session.
 fn dump_of<V: Shown>(rt: &impl Abort, alloc: Global, text: &str) -> Result<String, Fail> {
-    let (used, netlist) = netlist(text);
-    let stimulus = text.get(used?..).ok_or("past the end")?;
-    let starts = vec![in alloc; V::START; netlist.inputs()]?;
-    let mut store = store::<V>(alloc)?;
-    let mut session = Session::make(netlist, &mut store, &starts);
-    carry_out(&mut session, stimulus.as_bytes())?;
+    let mut desk = Desk::<V>::new(alloc, text)?;
+    let stimulus = desk.stimulus;
+    let mut session = desk.session();
+    carry_out(&mut session, stimulus)?;
     let text = dumped(alloc, &session)?;
+    let dump = Dump::read(alloc, &text)?;
     if V::WIDTH == 1 {
-        compare_lines(rt, alloc, &session, &Dump::read(alloc, &text)?)?;
+        compare_lines(rt, alloc, &session, &dump)?;
     }
     Ok(text)
 }
@@ -170,6 +200,66 @@ fn dumps_tell_what_listings_tell(rt: HostRuntime) -> Result<(), Fail> {
         let dump = dump_of::<Ternary>(&rt, rt.alloc(), text)?;
         let listed = Dump::read(rt.alloc(), &dump)?.listing()?;
         assert_eq!(rt; listed.as_str(), listing);
+    }
+    Ok(())
+}
+
+// A dump that the reader takes.
+const SMALL: &str = "\
+$scope module a $end
+$var wire 1 ! in1 $end
+$var wire 4 \" in2 $end
+$upscope $end
+$comment in1 is settled up to 7 $end
+$enddefinitions $end
+#0
+$dumpvars
+x!
+b0 \"
+$end
+#5
+1!
+bx \"
+#7
+";
+
+// That the reader refuses the small dump where a line of it is another.
+fn refuse(rt: &impl Abort, alloc: Global, old: &str, new: &str) -> Result<(), Fail> {
+    let (before, after) = SMALL.split_once(old).ok_or("no such line")?;
+    let text = format!(in alloc; "{before}{new}{after}")?;
+    assert!(rt; Dump::read(alloc, &text).is_err(), "{new}");
+    Ok(())
+}
+
+#[test]
+fn the_reader_refuses_what_is_no_dump(rt: HostRuntime) -> Result<(), Fail> {
+    assert_eq!(rt; Dump::read(rt.alloc(), SMALL)?.end(), 7);
+    let table = [
+        ("$scope module a $end", "$scope module $end"),
+        ("$scope module a $end", "$upscope $end"),
+        ("$upscope $end", "$scope module b $end"),
+        ("$var wire 4", "$var wire 0"),
+        ("$var wire 4 \"", "$var wire 4 !"),
+        ("$enddefinitions $end", "$comment in2 is not told $end"),
+        ("#0", "#5"),
+        ("#0\n", ""),
+        ("$end\n#5", "#5"),
+        ("$end\n#5\n1!\nbx \"\n#7\n", ""),
+        ("#5", "#0"),
+        ("#7", "#5"),
+        ("#7", "#"),
+        ("#7", "0 !"),
+        ("1!", "1#"),
+        ("1!", "2!"),
+        ("1!", "b1 !"),
+        ("b0", "b"),
+        ("b0", "b10000"),
+        ("b0", "b012"),
+        ("b0 \"", "0\""),
+        ("bx", "bxx"),
+    ];
+    for (old, new) in table {
+        refuse(&rt, rt.alloc(), old, new)?;
     }
     Ok(())
 }

@@ -2,13 +2,12 @@
 use Rattle.std.proofs.Common.{◌≡◌, ℕ, ◌+◌, ◌<◌, ◌≤◌, true, List, [], ◌∷◌, ◌++◌, length, get_or, drop, Option, Some, refl, sym, ap, ◌∙◌, subst, arith}
 use Rattle.std.proofs.lemmas.List.{drop_more}
 use Rattle.std.specs.Io.KnownBytes.{Appends}
-use Rattle.std.proofs.lemmas.List.Sums.{AllPass-from_list_all}
+use Rattle.std.proofs.ByRecursion.{All-get_or}
 use Rattle.std.specs.Int.{is_in_range}
 use Rattle.std.specs.List.{AllByRecursion}
 use Rattle.std.proofs.lemmas.Bool.{and_parts}
 use Rattle.engine.specs.Sessions.{lines_of, netlist_of}
 use Rattle.engine.specs.declared.session.Session.{Session}
-use Rattle.engine.proofs.Books.{line_of}
 use Rattle.netlist.specs.Closed.{circuit, Output}
 use Rattle.netlist.specs.declared.closed.Netlist.{Netlist}
 use Rattle.netlist.proofs.Ranges.{bounds}
@@ -21,12 +20,6 @@ use Rattle.semantics.specs.Machines.{Machine, IsLine}
 use Rattle.values.specs.declared.ternary.Ternary.{Ternary}
 use Rattle.listing.specs.Listers.{machine_in}
 use Rattle.listing.specs.Listings.{LineRows, RowsOf}
-
-output_in_range : (n : Netlist) (place line : ℕ) → Output (circuit n) place (Some line) → (0 < line) × (line ≤ lines (circuit n))
-output_in_range n place line output =
-    let all : is_in_range 1 (n.size.inputs + n.size.gates) (get_or (circuit n).outputs place 0) ≡ true = AllPass-from_list_all (is_in_range 1 (n.size.inputs + n.size.gates)) (circuit n).outputs n.ends_on_lines place 0 output.0 in
-    let range = bounds 1 (n.size.inputs + n.size.gates) (get_or (circuit n).outputs place 0) all in
-    (omega (arith, range.0, output.1), omega (arith, range.1, output.1, count_gates n))
 
 -- a text of which a part was put into a sink; what is left has the rows of these lines
 pub record Begun {S : Type 0} (contents : S → Option (List ℕ)) (s : Machine Ternary) (a : Account Ternary) (old now : S) (text : List ℕ) (ns : List ℕ) : Type 0 where
@@ -83,4 +76,4 @@ few_lines n = let inputs = n.places.few_inputs in let gates = n.places.few_gates
 -- the line that an output names, and its rows
 pub next_output : (t : Session Ternary) (a : Account Ternary) (place line : ℕ) (text : List ℕ) → Output (circuit (netlist_of t)) place (Some line) → RowsOf (machine_in t) a (drop place (lines_of t).circuit.outputs) text → IsLine (machine_in t).topology line × First (machine_in t) a line (drop (place + 1) (lines_of t).circuit.outputs) text
 next_output t a place line text output rows =
-    (line_of (lines_of t) line (output_in_range (netlist_of t) place line output), next_line (machine_in t) a (lines_of t).circuit.outputs place line text output.0 output.1 rows)
+    (subst (IsLine (machine_in t).topology) output.1 (All-get_or (IsLine (machine_in t).topology) (lines_of t).circuit.outputs place 0 output.0 (outputs_are_lines (netlist_of t))), next_line (machine_in t) a (lines_of t).circuit.outputs place line text output.0 output.1 rows)

@@ -10,7 +10,7 @@ use Rattle.engine.specs.Sessions.{Fresh, Made, KeepsItsOwn, lines_of, netlist_of
 use Rattle.engine.specs.declared.session.Session.{Session}
 use Rattle.engine.specs.Lines.{room}
 use Rattle.engine.proofs.Books.{sure, bounded, of_line}
-use Rattle.engine.proofs.Runs.{same_machine}
+use Rattle.engine.proofs.Runs.{same_machine, takes_of}
 use Rattle.events.specs.declared.record.EventRecord.{EventRecord}
 use Rattle.netlist.specs.Gates.{Circuit}
 use Rattle.semantics.specs.Accounts.{Account}
@@ -36,8 +36,7 @@ takes_alike s Takes.none = record { starts = λ n an_input. refl; ends = λ n an
 takes_alike s (Takes.one_more first can rest) = let on = takes_alike s rest in record { starts = on.starts; ends = on.ends; waveforms = on.waveforms; trims = on.trims }
 
 pub run_alike : (s : Machine Ternary) {most count : ℕ} {ending : Ending} {a b : Account Ternary} → Run s most a b count ending → Alike s a b
-run_alike s (Run.to_rest takes few rest) = takes_alike s takes
-run_alike s (Run.to_count takes left) = takes_alike s takes
+run_alike s run = takes_alike s (takes_of s run)
 
 pub ready_on : (c : Circuit) (s t : Session Ternary) → IsSessionOf c s → KeepsItsOwn s t → IsSessionOf c t
 ready_on c s t ready keeps = record {

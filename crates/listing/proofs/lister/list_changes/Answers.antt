@@ -31,9 +31,9 @@ returns-in_err-put g c a stands ticks contents =
     let refuses = g.S.Sink.Refuses in
     let change = c.in-Ok.change in
     let split = rows_split s a c.args.line ticks c.args.kept c.loop-k.k contents c.loop-k-test.true change.tick change.value (c.in-Ok.ensures.answers a stands) in
-    let refused = subst (refuses c.loop-k.out) c.change_row.ensures c.in_err-put.ensures.takes_or_refuses in
+    let refused = subst (λ l. refuses c.loop-k.out l c.put.new.self) c.change_row.ensures c.in_err-put.ensures.takes_or_refuses in
     carried c.from_residual.result c.in_err-put.field-0.0 _ _ c.from_residual.ensures.1
-    (stopped_within g.S.Sink.contents refuses c.args.out.now c.loop-k.out (change_rows s a c.args.line (take c.loop-k.k ticks)) (change_row change.tick change.value) (change_rows s a c.args.line (drop (c.loop-k.k + 1) ticks)) (change_rows s a c.args.line ticks) split (c.loop-k.invariant a stands ticks contents) (refused_all g.S.Sink.contents refuses c.loop-k.out (change_row change.tick change.value) refused))
+    (stopped_within g.S.Sink.contents refuses c.args.out.now c.loop-k.out c.put.new.self (change_rows s a c.args.line (take c.loop-k.k ticks)) (change_row change.tick change.value) (change_rows s a c.args.line (drop (c.loop-k.k + 1) ticks)) (change_rows s a c.args.line ticks) split (c.loop-k.invariant a stands ticks contents) (refused_all g.S.Sink.contents refuses c.loop-k.out c.put.new.self (change_row change.tick change.value) refused))
 
 pub returns : goal.returns
 returns g c a stands ticks contents =

@@ -19,9 +19,9 @@ returns-in_err-put g c a stands line rows is =
     let refuses = g.S.Sink.Refuses in
     let state = c.in-Ok.state in
     let told = state_told s a c.args.line state.settled state.kept (c.in-Ok.ensures.answers a stands) line in
-    let refused = subst (refuses c.args.out.now) c.line_row.ensures c.in_err-put.ensures.takes_or_refuses in
+    let refused = subst (λ l. refuses c.args.out.now l c.put.new.self) c.line_row.ensures c.in_err-put.ensures.takes_or_refuses in
     carried c.from_residual.result c.in_err-put.field-0.0 _ _ c.from_residual.ensures.1
-    (stopped_within g.S.Sink.contents refuses c.args.out.now c.args.out.now [] (line_row c.args.line state.settled state.kept) (change_rows s a c.args.line told.ticks) rows (rows_are s a c.args.line state.settled state.kept told rows is) (Appends-nil _) (refused_all g.S.Sink.contents refuses c.args.out.now (line_row c.args.line state.settled state.kept) refused))
+    (stopped_within g.S.Sink.contents refuses c.args.out.now c.args.out.now c.put.new.self [] (line_row c.args.line state.settled state.kept) (change_rows s a c.args.line told.ticks) rows (rows_are s a c.args.line state.settled state.kept told rows is) (Appends-nil _) (refused_all g.S.Sink.contents refuses c.args.out.now c.put.new.self (line_row c.args.line state.settled state.kept) refused))
 
 pub returns : goal.returns
 returns g c a stands line rows is =

@@ -39,7 +39,7 @@ returns-in_err-list_line g c a stands text rows =
     let next = next_output c.args.session.now a c.loop-place.place c.in-Some.line before.left output before.rows in
     let first = next.1 in
     carried c.from_residual.result c.in_err-list_line.field-0.0 _ _ c.from_residual.ensures.1
-    (stopped_within g.S.Sink.contents g.S.Sink.Refuses c.args.out.now c.loop-place.out before.done first.rows first.others text (before.split ∙ ap (λ l. before.done ++ l) first.is) before.took (c.in_err-list_line.ensures a stands next.0 first.rows first.line))
+    (stopped_within g.S.Sink.contents g.S.Sink.Refuses c.args.out.now c.loop-place.out c.list_line.new.out before.done first.rows first.others text (before.split ∙ ap (λ l. before.done ++ l) first.is) before.took (c.in_err-list_line.ensures a stands next.0 first.rows first.line))
 
 pub returns : goal.returns
 returns g c a stands text rows =

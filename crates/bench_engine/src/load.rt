@@ -1,15 +1,15 @@
 // The load: what inputs are fed in stretches, and what is counted meanwhile.
-use crate::multiplier::{INPUTS, LAST_OUTPUT, LINES};
+use crate::digest::Digest;
 use crate::random::Random;
 use crate::stop::Stop;
-use engine::session::{LineState, Session};
+use engine::session::Session;
 use netlist::refusal::Refusal;
 use values::bit::Bit;
 
 // How many steps make a stretch.
 const STEPS: u32 = 6;
 
-// How many ticks there are from a step to the next; all lines are quiet before it.
+// How many ticks there are from a step to the next.
 const PERIOD: u32 = 200;
 
 // A session under load: the tick of the next step, and what was counted so far. A change is counted when it is dropped.
@@ -19,8 +19,8 @@ pub struct Load<'a> {
     random: Random,
     tick: u32,
     steps: u32,
-    takes: u32,
-    dropped: usize,
+    takes: u64,
+    digest: Digest,
 }
 
 impl<'a> Load<'a> {
@@ -31,15 +31,16 @@ impl<'a> Load<'a> {
             tick: 0,
             steps: 0,
             takes: 0,
-            dropped: 0,
+            digest: Digest::new(),
         }
     }
 
-    // Feeds a bit to each of some inputs; a word at random tells to which ones, and which bits.
-    fn feed(&mut self, word: u64) -> Result<(), Refusal> {
-        for place in 0..INPUTS {
-            if word >> place & 1 == 1 {
-                let bit = Bit(word >> (INPUTS + place) & 1 == 1);
+    // Feeds a bit to each of some inputs; for each a word at random tells whether, and which bit.
+    fn step(&mut self) -> Result<(), Refusal> {
+        for place in 0..self.session.netlist().inputs() {
+            let word = self.random.next();
+            if word >> 32 & 1 == 1 {
+                let bit = Bit(word >> 33 & 1 == 1);
                 self.session.feed(place as u32 + 1, self.tick, bit)?;
             }
         }
@@ -49,8 +50,7 @@ impl<'a> Load<'a> {
     // Makes the steps of a stretch.
     fn steps(&mut self) -> Result<(), Refusal> {
         for _step in 0..STEPS {
-            let word = self.random.next();
-            self.feed(word)?;
+            self.step()?;
             self.steps = self.steps.saturating_add(1);
             self.tick = self.tick.saturating_add(PERIOD);
         }
@@ -59,36 +59,38 @@ impl<'a> Load<'a> {
 
     // Holds all inputs up to the next step.
     fn hold(&mut self) -> Result<(), Refusal> {
-        for place in 0..INPUTS {
+        for place in 0..self.session.netlist().inputs() {
             self.session.hold(place as u32 + 1, self.tick)?;
         }
         Ok(())
     }
 
-    // How many changes are kept now, of all lines.
-    fn kept(&self) -> Result<usize, Refusal> {
-        let mut kept: usize = 0;
-        for place in 0..LINES {
-            kept = kept.saturating_add(self.session.state(place as u32 + 1)?.kept);
+    // Counts the changes of a line that will be dropped.
+    fn count_line(&mut self, line: u32) -> Result<(), Refusal> {
+        for k in 0..self.session.state(line)?.kept {
+            let change = self.session.event(line, k)?;
+            if change.tick >= self.tick {
+                break;
+            }
+            self.digest.add(line, change);
         }
-        Ok(kept)
+        Ok(())
     }
 
     // Trims below the next step, and counts what is dropped.
     fn trim(&mut self) -> Result<(), Refusal> {
-        let before = self.kept()?;
-        self.session.trim(self.tick)?;
-        let dropped = before.saturating_sub(self.kept()?);
-        self.dropped = self.dropped.saturating_add(dropped);
-        Ok(())
+        for place in 0..self.session.netlist().lines() {
+            self.count_line(place as u32 + 1)?;
+        }
+        self.session.trim(self.tick)
     }
 
     // A stretch: gives the inputs, runs to rest, and trims.
     fn stretch(&mut self) -> Result<(), Refusal> {
         self.steps()?;
         self.hold()?;
-        let ran = self.session.run(u32::MAX);
-        self.takes = self.takes.saturating_add(ran.takes);
+        let takes = self.session.run_to_rest();
+        self.takes = self.takes.saturating_add(takes);
         self.trim()
     }
 
@@ -100,13 +102,13 @@ impl<'a> Load<'a> {
         Ok(())
     }
 
-    // Tells what was counted, with the changes that are still kept.
+    // Tells what was counted, and the digest.
     pub fn report(&self, rt: &impl Print) -> Result<(), Stop> {
         let Load { steps, takes, .. } = self;
-        let kept = self.dropped.saturating_add(self.kept()?);
-        let LineState { settled, .. } = self.session.state(LAST_OUTPUT)?;
-        println!(rt; "{steps} steps, {takes} takes, {kept} changes kept")?;
-        println!(rt; "the last output is settled to {settled}")?;
+        let Digest { changes, word } = self.digest;
+        println!(rt; "{takes} takes")?;
+        println!(rt; "{steps} steps, {changes} changes")?;
+        println!(rt; "digest {word:016x}")?;
         Ok(())
     }
 }

@@ -1,3 +1,3 @@
-mod Decimals
+pub mod Decimals
 mod Readings
 pub mod Spelled

@@ -36,7 +36,7 @@ module _ (c : Circuit) where
   abbrev pub is_gate : ℕ → Bool
   is_gate n = elim (driver c n) [ undriven ↦ false | input ↦ false | gate ↦ true ]
 
-  when_input : (n : ℕ) → is_input n ≡ true → IsInput (topology c) n
+  pub when_input : (n : ℕ) → is_input n ≡ true → IsInput (topology c) n
   when_input n = at_driver (driver c n)
     where
       at_driver : (d : Driver) → (elim d [ undriven ↦ false | input ↦ true | gate ↦ false ]) ≡ true → d ≡ input
@@ -44,7 +44,7 @@ module _ (c : Circuit) where
       at_driver input is = refl
       at_driver gate is = cc
 
-  when_gate : (n : ℕ) → is_gate n ≡ true → IsGate (topology c) n
+  pub when_gate : (n : ℕ) → is_gate n ≡ true → IsGate (topology c) n
   when_gate n = at_driver (driver c n)
     where
       at_driver : (d : Driver) → (elim d [ undriven ↦ false | input ↦ false | gate ↦ true ]) ≡ true → d ≡ gate
@@ -89,7 +89,7 @@ module _ {M : Type 0} (e : Equality M) (s : System M) (c : Circuit) (room : ℕ)
     abbrev pub fits_test : ℕ → ℕ → Bool
     fits_test n to = leb a.trim to && leb (length (changes_to n to)) room
 
-    fits : (n to : ℕ) → fits_test n to ≡ true → AtMost room (Stable S a n) a.trim to
+    pub fits : (n to : ℕ) → fits_test n to ≡ true → AtMost room (Stable S a n) a.trim to
     fits n to passed =
         let parts = and_parts (leb a.trim to) (leb (length (changes_to n to)) room) passed in
         record { ticks = changes_to n to; changes = listed_to n to (changes_to n to) (leb-true a.trim to parts.0) refl; few = leb-true (length (changes_to n to)) room parts.1 }
@@ -144,7 +144,7 @@ module _ {M : Type 0} (e : Equality M) (s : System M) (c : Circuit) (room : ℕ)
     abbrev pub rests_test : ℕ → Bool
     rests_test n = eqb (a.front n) (goal (topology c) a n) || (ltb (a.front n) (goal (topology c) a n) && overflow_test n (a.front n + (topology c).lag n))
 
-    rests : (n : ℕ) → rests_test n ≡ true → Rests S a n
+    pub rests : (n : ℕ) → rests_test n ≡ true → Rests S a n
     rests n passed =
         let to : ℕ = a.front n + (topology c).lag n in
         ⊎_elim (λ at_goal. Rests.idle (eqb-true (a.front n) (goal (topology c) a n) at_goal))

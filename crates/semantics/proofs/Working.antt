@@ -38,7 +38,7 @@ unfolding initial value begin_to follow_to looped leads
 full_rests = record { log = then_run equal_bits two_valued pulse 1 given_log full_run; rest = at_rest equal_bits two_valued pulse 1 stopped refl }
 
 -- both gates read line 1
-reached : AllReached pulse
+pub reached : AllReached pulse
 reached n past below =
     ⊎_elim (λ is. subst (Reached pulse) (sym is) (record { from = 1; not_before = omega arith; not_after = omega arith; walk = Walk.step (record { place = 0; within = omega arith; is = refl }) }))
     (λ is. subst (Reached pulse) (sym is) (record { from = 1; not_before = omega arith; not_after = omega arith; walk = Walk.step (record { place = 0; within = omega arith; is = refl }) })) two

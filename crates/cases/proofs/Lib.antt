@@ -1,0 +1,4 @@
+pub mod Calling
+pub mod Finding
+pub mod Reading
+pub mod Yielded

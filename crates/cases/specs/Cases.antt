@@ -1,0 +1,55 @@
+-- Worked cases: what is asked, and what has to come of it.
+use Rattle.std.specs.Prelude.{ℕ, ◌-◌, ◌/◌, Bool, List, [], ◌∷◌, ◌++◌, length, Ok, Err, Result}
+use Rattle.netlist.specs.Gates.{Circuit}
+use Rattle.values.specs.Knowledge.{three_valued}
+use Rattle.values.specs.Systems.{System, two_valued}
+use Rattle.values.specs.declared.ternary.Ternary.{Ternary}
+use Rattle.deck.specs.Closing.{ClosedOutcome}
+use Rattle.deck.specs.Outcomes.{Answer}
+use Rattle.semantics.specs.Circuits.{lines}
+use Rattle.semantics.specs.CircuitMachine.{machine}
+use Rattle.semantics.specs.Moves.{made}
+use Rattle.engine.specs.Answers.{Making}
+use Rattle.engine.specs.Sessions.{given}
+use Rattle.cases.specs.Calls.{Call, Gives}
+
+-- a session: its netlist, how many records its store has, its inputs' initial values, what making answers, and its calls
+pub record Job (M : Type 0) : Type 0 where
+  pub circuit : Circuit
+  pub records : ℕ
+  pub starts : List M
+  pub making : Result Unit ℕ
+  pub calls : List (Call M)
+
+-- what a made session gives; one that is refused has no lines
+abbrev pub WhenMade : Result Unit ℕ → Type 0 → Type 0
+WhenMade (Ok made) Given = Given
+WhenMade (Err number) Given = Unit {0}
+
+-- making gives its answer, and then each call gives its own
+abbrev pub Worked : {M : Type 0} → System M → Job M → Type 0
+Worked s job =
+    Making job.circuit job.records (length job.starts) job.making × WhenMade job.making (Gives (machine s job.circuit (job.records / lines job.circuit - 1)) (made (given (λ v. v) s.start job.starts)) job.calls)
+
+-- the bytes of records, each ended by byte 10
+abbrev pub ended : List (List ℕ) → List ℕ
+ended [] = []
+ended (r ∷ rs) = r ++ (10 ∷ ended rs)
+
+-- A session in two values or in three; or records that are read and closed, with the bytes used and the netlist, or the
+-- first fault and no netlist.
+pub data Case : Type 0 where
+  in_bits : Job Bool → Case
+  in_three_values : Job Ternary → Case
+  deck : List (List ℕ) → Answer → Circuit → Case
+
+-- the definitions yield the case
+abbrev pub Yielded : Case → Type 0
+Yielded (in_bits job) = Worked two_valued job
+Yielded (in_three_values job) = Worked three_valued job
+Yielded (deck records answer c) = ClosedOutcome (ended records) answer c
+
+-- they yield all the cases
+abbrev pub AllYielded : List Case → Type 0
+AllYielded [] = Unit {0}
+AllYielded (c ∷ cs) = Yielded c × AllYielded cs

@@ -1,0 +1,3 @@
+pub mod Calls
+pub mod Cases
+pub mod Table

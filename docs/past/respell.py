@@ -1,7 +1,7 @@
 #!/usr/bin/env python3
 """Turns the names of this repository's own definitions and lemmas to snake case: 'gates-of' to 'gates_of'.
 
-usage: tools/respell.py [FOLDER]
+usage: respell.py [FOLDER]
 
 Run once at the top, after the kit's port.py. A dash is kept where it joins two names, as in length-gates_of, the length
 of gates_of. What turns: .antt files, and the clauses and ghost items of .rt files, whole names alone. Names that

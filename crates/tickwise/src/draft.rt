@@ -23,15 +23,16 @@ pub struct Draft {
 
 impl Draft {
     pub fn new(alloc: Global, inputs: usize, gates: usize, outputs: usize) -> Draft {
+        let mut circuit = Circuit::empty(alloc);
+        let dead = Draft::limits(inputs, gates, outputs).is_err();
+        if !dead {
+            circuit.inputs = inputs;
+        }
         Draft {
-            dead: Draft::limits(inputs, gates, outputs).is_err(),
+            dead,
             gates,
             outputs,
-            circuit: Circuit {
-                inputs,
-                gates: Vec::new(alloc),
-                outputs: Vec::new(alloc),
-            },
+            circuit,
         }
     }
 

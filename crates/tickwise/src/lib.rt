@@ -11,5 +11,5 @@ mod table;
 pub mod three;
 pub mod two;
 pub mod value;
-mod walks;
+pub mod walks;
 pub mod word;

@@ -141,6 +141,14 @@ impl<'c, V: Value> Session<'c, V> {
         self.front(line) == self.goal(gate) || self.overflows(line, self.settled(line))
     }
 
+    // Whether a line is a gate's that rests below its goal.
+    pub fn is_full(&self, line: u32) -> bool {
+        match self.circuit.gate(line) {
+            None => false,
+            Some(gate) => self.front(line) < self.goal(gate) && self.rests(gate, line),
+        }
+    }
+
     // The lengths with which the paths that begin at inputs begin.
     fn ends(&self) -> Result<Vec<Option<u32>>, AllocError> {
         let mut ends = Vec::new(self.alloc);

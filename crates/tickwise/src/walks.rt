@@ -4,7 +4,7 @@ use std::alloc::{AllocError, Global};
 
 // For each line, the lines from which a walk leads to it.
 #[derive(Drop)]
-pub(crate) struct Walks {
+pub struct Walks {
     from: Vec<Vec<bool>>,
 }
 

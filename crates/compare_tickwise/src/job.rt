@@ -155,6 +155,21 @@ fn check<V: Related, R: Value + Spelled>(
     Ok(answer)
 }
 
+// Compares a session at rest with others that do its job.
+fn compare_others<V: Related, R: Value + Spelled>(
+    trial: &mut Trial,
+    desk: &Desk,
+    pair: &Pair<V, R>,
+) -> Result<(), Stop> {
+    let job = Job {
+        circuit: desk.circuit,
+        starts: &desk.starts,
+        log: &pair.log,
+    };
+    compare_again(trial, pair, desk.system, desk.records, job)?;
+    V::compare_related(trial, &pair.engine, job)
+}
+
 // Does a job in a session with lines.
 fn do_job<V: Related, R: Value + Spelled>(
     trial: &mut Trial,
@@ -166,13 +181,7 @@ fn do_job<V: Related, R: Value + Spelled>(
     let calls = desk.pace.calls(&mut trial.random);
     make_calls(trial, pair, desk.system, desk.pace, calls)?;
     rest(trial, pair)?;
-    let job = Job {
-        circuit: desk.circuit,
-        starts: &desk.starts,
-        log: &pair.log,
-    };
-    compare_again(trial, pair, desk.system, desk.records, job)?;
-    V::compare_related(trial, &pair.engine, job)
+    compare_others(trial, desk, pair)
 }
 
 // Makes both sessions, which are without lines where that is refused, and does a job.

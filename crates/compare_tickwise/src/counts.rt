@@ -38,6 +38,9 @@ pub struct Counts {
     pub functions: [u64; 8],
     // Gates of closed netlists, by how many lines they read.
     pub reads: [u64; 5],
+    // Gates whose delay is 100 or more, and those of the greatest delay.
+    pub slow: u64,
+    pub slowest: u64,
     pub looped: u64,
     pub reading_themselves: u64,
     pub tallies: [Tally; 14],
@@ -50,8 +53,9 @@ pub struct Counts {
     pub untouched: u64,
     pub stores: u64,
     pub again: u64,
+    // Stores that were not the same, as they must not be.
+    pub unlike: u64,
     pub tied: u64,
-    pub takes: u64,
 }
 
 impl Counts {

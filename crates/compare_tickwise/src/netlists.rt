@@ -11,6 +11,10 @@ use netlist::size::Size;
 use tickwise::circuit::{Circuit, Gate};
 use tickwise::walks::Walks;
 
+const SLOW: u32 = 100;
+
+const MOST_DELAY: u32 = 65_535;
+
 // How many lines a gate reads at most.
 const MOST_READS: usize = 4;
 
@@ -54,6 +58,12 @@ fn compare_gate(netlist: &Netlist, circuit: &Circuit, line: u32) -> Result<(), S
 fn count_gate(counts: &mut Counts, gate: &Gate, line: u32) {
     counts.note_function(gate.function);
     counts.note_reads(gate.reads.len());
+    if gate.delay >= SLOW {
+        count(&mut counts.slow);
+    }
+    if gate.delay == MOST_DELAY {
+        count(&mut counts.slowest);
+    }
     if gate.reads.iter().any(|read| *read == line) {
         count(&mut counts.reading_themselves);
     }

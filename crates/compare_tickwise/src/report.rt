@@ -29,9 +29,12 @@ fn tell_gates(rt: &impl Print, counts: &Counts) -> io::Result<()> {
     let Counts {
         looped,
         reading_themselves,
+        slow,
+        slowest,
         ..
     } = counts;
-    println!(rt; "; {looped} looped, {reading_themselves} read themselves")
+    println!(rt; "; {looped} looped, {reading_themselves} read themselves")?;
+    println!(rt; "  with delays of 100 and more: {slow}; of 65535: {slowest}")
 }
 
 fn tell_tally(rt: &impl Print, name: Name, tally: &Tally) -> io::Result<()> {
@@ -69,11 +72,12 @@ fn tell_compared(rt: &impl Print, counts: &Counts) -> io::Result<()> {
         records,
         untouched,
         again,
+        unlike,
         tied,
         ..
     } = counts;
     println!(rt; "  {stores} stores of {records} records, {untouched} of them beyond the lines")?;
-    println!(rt; "  {again} jobs done again, {tied} values tied to bits")
+    println!(rt; "  {again} jobs done again, {unlike} stores before that not the same, {tied} values tied to bits")
 }
 
 pub fn tell(rt: &impl Print, counts: &Counts) -> io::Result<()> {

@@ -8,6 +8,8 @@ pub mod draft;
 pub mod refusal;
 pub mod session;
 mod table;
+#[cfg(test)]
+mod tests;
 pub mod three;
 pub mod two;
 pub mod value;

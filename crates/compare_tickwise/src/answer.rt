@@ -2,6 +2,7 @@
 use crate::call::Call;
 use crate::level::Level;
 use netlist::kind::Kind;
+use netlist::refusal::Refusal;
 use std::fmt;
 
 // A refusal is told by its number.
@@ -41,6 +42,22 @@ impl fmt::Display for Answer {
             Answer::Gate(None) => f.write_str("no gate"),
             Answer::Gate(Some((kind, delay))) => write!(f, "{kind}, delay {delay}"),
         }
+    }
+}
+
+// What the engine answers to a call that tells nothing else.
+pub fn engine_answer(answer: Result<(), Refusal>) -> Answer {
+    match answer {
+        Ok(()) => Answer::Done,
+        Err(refusal) => Answer::Refused(refusal.number()),
+    }
+}
+
+// What tickwise answers to such a call.
+pub fn tickwise_answer(answer: Result<(), tickwise::refusal::Refusal>) -> Answer {
+    match answer {
+        Ok(()) => Answer::Done,
+        Err(refusal) => Answer::Refused(refusal.number()),
     }
 }
 

@@ -60,6 +60,24 @@ pub fn ask_engine<V: ValueSystem + Spelled>(session: &mut Session<V>, call: Call
     }
 }
 
+fn ran(ran: tickwise::session::Ran) -> Answer {
+    let tickwise::session::Ran { takes, rests } = ran;
+    Answer::Ran { takes, rests }
+}
+
+fn stated(state: State) -> Answer {
+    let State { settled, kept } = state;
+    Answer::State { settled, kept }
+}
+
+// A change as an answer.
+pub fn changed<R: Spelled>(change: Change<R>) -> Answer {
+    Answer::Change {
+        tick: change.tick,
+        value: change.value.level(),
+    }
+}
+
 fn try_tickwise<R: Value + Spelled>(
     session: &mut tickwise::session::Session<R>,
     call: Call,
@@ -72,27 +90,16 @@ fn try_tickwise<R: Value + Spelled>(
         }
         Call::Hold { line, tick } => session.hold(line, tick)?.map(|_| Answer::Done),
         Call::Take(line) => session.take(line).map(Answer::Settled),
-        Call::Run(most) => {
-            let tickwise::session::Ran { takes, rests } = session.run(most);
-            Ok(Answer::Ran { takes, rests })
-        }
+        Call::Run(most) => Ok(ran(session.run(most))),
         Call::RunToRest => Ok(Answer::Took(session.run(u32::MAX).takes as u64)),
         Call::Trim(tick) => session.trim(tick).map(|_| Answer::Done),
-        Call::Value { line, tick } => match session.value(line, tick) {
-            Ok(value) => Ok(Answer::Shows(value.level())),
-            Err(refusal) => Err(refusal),
-        },
-        Call::Event { line, k } => match session.event(line, k) {
-            Ok(Change { tick, value }) => {
-                let value = value.level();
-                Ok(Answer::Change { tick, value })
-            }
-            Err(refusal) => Err(refusal),
-        },
-        Call::State(line) => match session.state(line) {
-            Ok(State { settled, kept }) => Ok(Answer::State { settled, kept }),
-            Err(refusal) => Err(refusal),
-        },
+        Call::Value { line, tick } => {
+            session
+                .value(line, tick)
+                .map(|value| Answer::Shows(value.level()))
+        }
+        Call::Event { line, k } => session.event(line, k).map(changed),
+        Call::State(line) => session.state(line).map(stated),
         Call::AtRest => Ok(Answer::Truth(session.at_rest())),
         Call::Room => Ok(Answer::Count(session.room())),
         Call::TrimTick => Ok(Answer::Tick(session.trim_tick())),

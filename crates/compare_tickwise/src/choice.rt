@@ -80,6 +80,18 @@ fn draw_asked<R: Value>(random: &mut Random, session: &Session<R>, line: u32) ->
     }
 }
 
+// A line of which changes are kept, if one is found soon.
+fn draw_kept_line<R: Value>(random: &mut Random, session: &Session<R>) -> u32 {
+    let mut line = draw_line(random, session);
+    for _try in 0..3 {
+        if session.state(line).is_ok_and(|state| state.kept > 0) {
+            break;
+        }
+        line = draw_line(random, session);
+    }
+    line
+}
+
 // The number of a change: mostly one that is kept.
 fn draw_change<R: Value>(random: &mut Random, session: &Session<R>, line: u32) -> usize {
     let kept = session.state(line).map_or(0, |state| state.kept);
@@ -140,7 +152,7 @@ pub fn draw_call<R: Value>(
             Call::Value { line, tick }
         }
         28..30 => {
-            let line = draw_line(random, session);
+            let line = draw_kept_line(random, session);
             let k = draw_change(random, session, line);
             Call::Event { line, k }
         }

@@ -1,5 +1,5 @@
 // A netlist drawn in both simulators, addition by addition.
-use crate::answer::{Answer, Asked};
+use crate::answer::{Answer, Asked, engine_answer, tickwise_answer};
 use crate::call::Name;
 use crate::drawing::{draw_bad_gate, draw_gate, draw_no_line};
 use crate::kinds::kind_of;
@@ -8,27 +8,12 @@ use crate::stop::{Stop, compare};
 use crate::trial::Trial;
 use netlist::closed::Netlist;
 use netlist::draft::Draft;
-use netlist::refusal::Refusal;
 use netlist::size::Size;
 use std::alloc::Global;
 use tickwise::circuit::{Circuit, Gate};
 
 // How many gates or outputs are tried of a draft that was opened outside the limits.
 const FEW: usize = 2;
-
-pub fn engine_answer(answer: Result<(), Refusal>) -> Answer {
-    match answer {
-        Ok(()) => Answer::Done,
-        Err(refusal) => Answer::Refused(refusal.number()),
-    }
-}
-
-pub fn tickwise_answer(answer: Result<(), tickwise::refusal::Refusal>) -> Answer {
-    match answer {
-        Ok(()) => Answer::Done,
-        Err(refusal) => Answer::Refused(refusal.number()),
-    }
-}
 
 // Both drafts, and how many additions were tried.
 #[derive(Drop)]

@@ -48,7 +48,7 @@ fn draw_reads(
     let earlier = trial.random.below(count);
     let mut reads = Vec::new(trial.alloc);
     for place in 0..count {
-        if place == earlier && !trial.random.one_in(40) {
+        if place == earlier && !trial.random.one_in(25) {
             reads.push(draw_earlier(&mut trial.random, line))?;
         } else {
             reads.push(draw_read(&mut trial.random, shape, line))?;

@@ -1,10 +1,9 @@
 // A job at random in both simulators.
 use crate::again::do_again;
-use crate::answer::{Answer, Asked};
+use crate::answer::{Answer, Asked, engine_answer, tickwise_answer};
 use crate::call::{Call, Name};
 use crate::choice::draw_call;
 use crate::counts::count;
-use crate::drafts::{engine_answer, tickwise_answer};
 use crate::level::{Level, Spelled, System};
 use crate::netlists::netlist_of;
 use crate::pair::Pair;
@@ -73,6 +72,7 @@ fn make_calls<V: Related, R: Value + Spelled>(
         pair.call(trial, call)?;
         if pace != Pace::Longest && trial.random.one_in(16) {
             survey(trial, pair)?;
+            survey_distances(trial, pair)?;
         }
     }
     Ok(())
@@ -92,12 +92,12 @@ fn compare_again<V: Related, R: Value + Spelled>(
     let mut again = Session::make(netlist_of(job.circuit)?, &mut store, &starts);
     let starts = spelled::<R>(trial, job.starts)?;
     let made = tickwise::session::Session::make(trial.alloc, job.circuit, records, &starts)?;
-    let same = Answer::Truth(same_stores(&made, &pair.tickwise)?);
-    compare(
-        Asked::SameStore,
-        Answer::Truth(pair.engine.same_store(&again)),
-        same,
-    )?;
+    let same = same_stores(&made, &pair.tickwise)?;
+    let answer = Answer::Truth(pair.engine.same_store(&again));
+    compare(Asked::SameStore, answer, Answer::Truth(same))?;
+    if !same {
+        count(&mut trial.counts.unlike);
+    }
     do_again(trial, &mut again, job.log)?;
     let same = Answer::Truth(pair.engine.same_store(&again));
     compare(Asked::SameStore, same, Answer::Truth(true))?;
@@ -126,7 +126,13 @@ fn rest<V: Related, R: Value + Spelled>(
 ) -> Result<(), Stop> {
     pair.call(trial, Call::RunToRest)?;
     survey(trial, pair)?;
-    survey_distances(trial, pair)
+    survey_distances(trial, pair)?;
+    for line in 1..=pair.tickwise.circuit().lines() {
+        if pair.tickwise.is_full(line) {
+            count(&mut trial.counts.full);
+        }
+    }
+    Ok(())
 }
 
 // What a job is done with.

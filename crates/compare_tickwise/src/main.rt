@@ -38,6 +38,8 @@ use crate::stop::Stop;
 use crate::trial::Trial;
 use std::io;
 use std::process::ExitCode;
+use std::rt::Runtime;
+use tickwise::circuit::Circuit;
 use tickwise::three::Three;
 use tickwise::two::Two;
 use tickwise::word::Word;
@@ -71,7 +73,7 @@ fn compare_one(trial: &mut Trial, system: System) -> Result<(), Stop> {
     let circuit = if answer == Answer::Done {
         circuit
     } else {
-        tickwise::circuit::Circuit::empty(trial.alloc)
+        Circuit::empty(trial.alloc)
     };
     compare_netlist(trial, &netlist, &circuit)?;
     let pace = shape.pace;
@@ -82,9 +84,10 @@ fn compare_one(trial: &mut Trial, system: System) -> Result<(), Stop> {
     }
 }
 
-fn tell_difference(rt: &impl Print, seed: u64, found: &Difference) -> io::Result<()> {
+// Tells a difference. The netlist is found again as the first of its own seed.
+fn tell_difference(rt: &impl Print, netlist: u64, seed: u64, found: &Difference) -> io::Result<()> {
     let system = system_of(seed).name();
-    println!(rt; "seed {seed}, {system}: {found}")
+    println!(rt; "netlist {netlist}, seed {seed}, {system}: {found}")
 }
 
 // Compares so many netlists, or fewer where many differences are found. Tells how many are.
@@ -101,7 +104,7 @@ fn compare_all<R: Print + AllocGlobal>(rt: &R, options: Options) -> Result<u64, 
         match compare_one(&mut trial, system_of(seed)) {
             Err(Stop::Differs(found)) => {
                 differences = differences.saturating_add(1);
-                tell_difference(rt, seed, &found)?;
+                tell_difference(rt, netlist, seed, &found)?;
             }
             done => done?,
         }
@@ -113,7 +116,7 @@ fn compare_all<R: Print + AllocGlobal>(rt: &R, options: Options) -> Result<u64, 
     Ok(differences)
 }
 
-fn run<R: std::rt::Runtime + AllocGlobal>(rt: &R) -> Result<ExitCode, Stop> {
+fn run<R: Runtime + AllocGlobal>(rt: &R) -> Result<ExitCode, Stop> {
     let options = options::read(rt)?;
     let Options { seed, netlists } = options;
     println!(rt; "{netlists} netlists, the first of seed {seed}")?;

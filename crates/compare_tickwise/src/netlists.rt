@@ -1,8 +1,8 @@
 // A closed netlist compared with its circuit.
-use crate::answer::{Answer, Asked};
+use crate::answer::{Answer, Asked, engine_answer};
 use crate::counts::{Counts, count};
-use crate::drafts::engine_answer;
 use crate::kinds::kind_of;
+use crate::shape::MOST_DELAY;
 use crate::stop::{Stop, compare};
 use crate::trial::Trial;
 use netlist::closed::Netlist;
@@ -12,8 +12,6 @@ use tickwise::circuit::{Circuit, Gate};
 use tickwise::walks::Walks;
 
 const SLOW: u32 = 100;
-
-const MOST_DELAY: u32 = 65_535;
 
 // How many lines a gate reads at most.
 const MOST_READS: usize = 4;

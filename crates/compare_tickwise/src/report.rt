@@ -77,7 +77,9 @@ fn tell_compared(rt: &impl Print, counts: &Counts) -> io::Result<()> {
         ..
     } = counts;
     println!(rt; "  {stores} stores of {records} records, {untouched} of them beyond the lines")?;
-    println!(rt; "  {again} jobs done again, {unlike} stores before that not the same, {tied} values tied to bits")
+    println!(rt;
+        "  {again} jobs done again, {unlike} stores before that not the same, {tied} values tied to bits"
+    )
 }
 
 pub fn tell(rt: &impl Print, counts: &Counts) -> io::Result<()> {

@@ -17,14 +17,14 @@ pub struct Shape {
     pub pace: Pace,
 }
 
-const MOST_DELAY: u32 = 65_535;
+pub const MOST_DELAY: u32 = 65_535;
 
 impl Pace {
     pub fn draw(random: &mut Random) -> Pace {
-        match random.below(400) {
+        match random.below(100) {
             0 => Pace::Longest,
-            1..20 => Pace::Long,
-            20..120 => Pace::Mixed,
+            1..7 => Pace::Long,
+            7..30 => Pace::Mixed,
             _ => Pace::Short,
         }
     }

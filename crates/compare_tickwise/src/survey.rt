@@ -1,13 +1,12 @@
 // All that can be asked of a session, compared.
 use crate::answer::{Answer, Asked};
-use crate::asking::ask_engine;
+use crate::asking::{ask_engine, changed};
 use crate::call::Call;
 use crate::counts::count;
 use crate::level::Spelled;
 use crate::pair::Pair;
 use crate::stop::{Stop, compare};
 use crate::trial::Trial;
-use tickwise::session::Change;
 use tickwise::value::Value;
 use values::system::ValueSystem;
 
@@ -21,14 +20,8 @@ fn survey_changes<V: ValueSystem + Spelled, R: Value + Spelled>(
     for (k, change) in changes.iter().enumerate() {
         let call = Call::Event { line, k };
         let answer = ask_engine(&mut pair.engine, call);
-        let Change { tick, value } = *change;
-        let value = value.level();
         let number = pair.calls;
-        compare(
-            Asked::Call { number, call },
-            answer,
-            Answer::Change { tick, value },
-        )?;
+        compare(Asked::Call { number, call }, answer, changed(*change))?;
         count(&mut trial.counts.changes);
     }
     let k = changes.len();
@@ -67,11 +60,14 @@ pub fn survey<V: ValueSystem + Spelled, R: Value + Spelled>(
     Ok(())
 }
 
-// At rest each line is settled to its distance.
+// At rest each line is settled to its distance; before that there is nothing to compare.
 pub fn survey_distances<V: ValueSystem + Spelled, R: Value + Spelled>(
     trial: &mut Trial,
     pair: &mut Pair<V, R>,
 ) -> Result<(), Stop> {
+    if !pair.tickwise.at_rest() {
+        return Ok(());
+    }
     let distances = pair.tickwise.distances()?;
     for line in 1..=pair.tickwise.circuit().lines() {
         let settled = match pair.engine.state(line) {
@@ -85,9 +81,6 @@ pub fn survey_distances<V: ValueSystem + Spelled, R: Value + Spelled>(
         };
         compare(Asked::Distance(line), settled, expected)?;
         count(&mut trial.counts.distances);
-        if pair.tickwise.is_full(line) {
-            count(&mut trial.counts.full);
-        }
     }
     Ok(())
 }

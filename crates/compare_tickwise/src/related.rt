@@ -27,6 +27,20 @@ pub struct Job<'j> {
     pub log: &'j [Call],
 }
 
+// The refusals of what is not told.
+const NO_LINE: u8 = 12;
+
+const PAST: u8 = 13;
+
+const UNSETTLED: u8 = 15;
+
+// A relation to bits, and the lane that it is of, or 0.
+#[derive(Clone, Copy)]
+struct Laned<L> {
+    relation: L,
+    lane: u8,
+}
+
 // A bit that is tied to a value: that in a lane of a word, itself, or any for X.
 fn tied_bit(random: &mut Random, value: Level, lane: u8) -> Level {
     match value {
@@ -61,54 +75,72 @@ fn tied_starts(trial: &mut Trial, starts: &[Level], lane: u8) -> Result<Vec<Bit>
     Ok(tied)
 }
 
-// The values of a line that are settled in both sessions must be tied, and the next one is not told.
+// Whether the values of a line at a tick are tied must be answered so.
+fn compare_tied<V: ValueSystem, L: Relation<V, Bit>>(
+    relation: &Laned<L>,
+    session: &Session<V>,
+    bits: &Session<Bit>,
+    line: u32,
+    tick: u32,
+    expected: Answer,
+) -> Result<(), Stop> {
+    let answer = match session.tied(&relation.relation, bits, line, tick) {
+        Ok(tied) => Answer::Truth(tied),
+        Err(refusal) => Answer::Refused(refusal.number()),
+    };
+    let lane = relation.lane;
+    compare(Asked::Tied { lane, line, tick }, answer, expected)
+}
+
+// The values of a line that are settled in both sessions must be tied; those before the trim tick and from the lesser settled
+// time on are not told.
 fn compare_line<V: ValueSystem, L: Relation<V, Bit>>(
     trial: &mut Trial,
-    relation: &L,
-    lane: u8,
+    relation: &Laned<L>,
     session: &Session<V>,
     bits: &Session<Bit>,
     line: u32,
 ) -> Result<(), Stop> {
+    let trim = session.trim_tick();
     let settled = session.state(line).map_or(0, |state| state.settled);
     let end = bits
         .state(line)
         .map_or(0, |state| state.settled.min(settled));
-    for tick in session.trim_tick()..=end {
-        let answer = match session.tied(relation, bits, line, tick) {
-            Ok(tied) => Answer::Truth(tied),
-            Err(refusal) => Answer::Refused(refusal.number()),
-        };
-        let expected = if tick < end {
-            Answer::Truth(true)
-        } else {
-            Answer::Refused(15)
-        };
-        compare(Asked::Tied { lane, line, tick }, answer, expected)?;
+    if let Some(before) = trim.checked_sub(1) {
+        compare_tied(relation, session, bits, line, before, Answer::Refused(PAST))?;
+    }
+    for tick in trim..end {
+        compare_tied(relation, session, bits, line, tick, Answer::Truth(true))?;
         count(&mut trial.counts.tied);
     }
-    Ok(())
+    compare_tied(
+        relation,
+        session,
+        bits,
+        line,
+        end.max(trim),
+        Answer::Refused(UNSETTLED),
+    )
 }
 
 // Does a job again in two values, without trims and with room for all that inputs are given, and compares all lines.
 fn compare_bits<V: ValueSystem, L: Relation<V, Bit>>(
     trial: &mut Trial,
-    relation: &L,
-    lane: u8,
+    relation: &Laned<L>,
     session: &Session<V>,
     job: Job,
 ) -> Result<(), Stop> {
     let room = job.log.len().saturating_add(2);
     let records = room.saturating_mul(job.circuit.lines() as usize);
     let mut store = blank::<Bit>(trial, System::Two, records)?;
-    let starts = tied_starts(trial, job.starts, lane)?;
-    let log = tied_log(trial, job.log, lane)?;
+    let starts = tied_starts(trial, job.starts, relation.lane)?;
+    let log = tied_log(trial, job.log, relation.lane)?;
     let mut bits = Session::make(netlist_of(job.circuit)?, &mut store, &starts);
     do_again(trial, &mut bits, &log)?;
     for line in 1..=job.circuit.lines() {
-        compare_line(trial, relation, lane, session, &bits, line)?;
+        compare_line(trial, relation, session, &bits, line)?;
     }
-    Ok(())
+    compare_tied(relation, session, &bits, 0, 0, Answer::Refused(NO_LINE))
 }
 
 // A value system whose sessions are compared with one in two values.
@@ -128,7 +160,11 @@ impl Related for Bit {
 
 impl Related for Ternary {
     fn compare_related(trial: &mut Trial, session: &Session<Self>, job: Job) -> Result<(), Stop> {
-        compare_bits(trial, &StandsFor, 0, session, job)
+        let relation = Laned {
+            relation: StandsFor,
+            lane: 0,
+        };
+        compare_bits(trial, &relation, session, job)
     }
 }
 
@@ -137,7 +173,10 @@ impl Related for Lanes {
         let place = u8::try_from(trial.random.below(64)).unwrap_or(0);
         match Lane::new(place) {
             None => Ok(()),
-            Some(lane) => compare_bits(trial, &lane, place, session, job),
+            Some(relation) => {
+                let lane = place;
+                compare_bits(trial, &Laned { relation, lane }, session, job)
+            }
         }
     }
 }

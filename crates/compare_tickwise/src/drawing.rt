@@ -1,0 +1,92 @@
+// Gates at random, good ones and bad ones.
+use crate::random::Random;
+use crate::shape::Shape;
+use crate::trial::Trial;
+use std::alloc::AllocError;
+use tickwise::circuit::{Function, Gate};
+
+const OTHER_FUNCTIONS: [Function; 7] = [
+    Function::Not,
+    Function::And,
+    Function::Or,
+    Function::Xor,
+    Function::Nand,
+    Function::Nor,
+    Function::Xnor,
+];
+
+// How many lines a gate reads that is no bad one.
+fn fan_in(random: &mut Random, function: Function) -> u32 {
+    match function {
+        Function::Buf | Function::Not => 1,
+        _ if random.one_in(4) => random.within(3, 4),
+        _ => 2,
+    }
+}
+
+// A line that the gate on a line reads: often its own, one beside it, or any.
+fn draw_read(random: &mut Random, shape: &Shape, line: u32) -> u32 {
+    match random.below(12) {
+        0 => line,
+        1..3 => line.saturating_add(1).min(shape.lines()),
+        3..6 => line.saturating_sub(1).max(1),
+        _ => random.within(1, shape.lines()),
+    }
+}
+
+// A line before a gate's. Where each gate reads such a line, inputs reach all.
+fn draw_earlier(random: &mut Random, line: u32) -> u32 {
+    random.within(1, line.saturating_sub(1).max(1))
+}
+
+fn draw_reads(
+    trial: &mut Trial,
+    shape: &Shape,
+    line: u32,
+    count: u32,
+) -> Result<Vec<u32>, AllocError> {
+    let earlier = trial.random.below(count);
+    let mut reads = Vec::new(trial.alloc);
+    for place in 0..count {
+        if place == earlier && !trial.random.one_in(25) {
+            reads.push(draw_earlier(&mut trial.random, line))?;
+        } else {
+            reads.push(draw_read(&mut trial.random, shape, line))?;
+        }
+    }
+    Ok(reads)
+}
+
+// A gate for a line, which may be added.
+pub fn draw_gate(trial: &mut Trial, shape: &Shape, line: u32) -> Result<Gate, AllocError> {
+    let function = trial.random.pick(Function::Buf, &OTHER_FUNCTIONS);
+    let count = fan_in(&mut trial.random, function);
+    Ok(Gate {
+        function,
+        delay: shape.pace.delay(&mut trial.random),
+        reads: draw_reads(trial, shape, line, count)?,
+    })
+}
+
+// No line of a netlist.
+pub fn draw_no_line(random: &mut Random, lines: u32) -> u32 {
+    random.pick(0, &[lines.saturating_add(1), u32::MAX])
+}
+
+// A gate that may be bad in its delay, in a line that it reads, in how many it reads, or in several of these.
+pub fn draw_bad_gate(trial: &mut Trial, shape: &Shape, line: u32) -> Result<Gate, AllocError> {
+    let mut gate = draw_gate(trial, shape, line)?;
+    if trial.random.one_in(2) {
+        let count = trial.random.below(6);
+        gate.reads = draw_reads(trial, shape, line, count)?;
+    }
+    if trial.random.one_in(3) {
+        gate.delay = trial.random.pick(0, &[65_536, u32::MAX]);
+    }
+    if trial.random.one_in(3) {
+        let _ = gate.reads.pop();
+        gate.reads
+            .push(draw_no_line(&mut trial.random, shape.lines()))?;
+    }
+    Ok(gate)
+}

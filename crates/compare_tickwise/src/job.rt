@@ -1,0 +1,243 @@
+// A job at random in both simulators.
+use crate::again::do_again;
+use crate::answer::{Answer, Asked, engine_answer, tickwise_answer};
+use crate::call::{Call, Name};
+use crate::choice::draw_call;
+use crate::counts::count;
+use crate::level::{Level, Spelled, System};
+use crate::netlists::netlist_of;
+use crate::pair::Pair;
+use crate::random::Random;
+use crate::related::{Job, Related};
+use crate::shape::Pace;
+use crate::stop::{Stop, compare};
+use crate::stores::{blank, compare_store};
+use crate::survey::{survey, survey_distances};
+use crate::trial::Trial;
+use engine::session::Session;
+use netlist::closed::Netlist;
+use tickwise::circuit::Circuit;
+use tickwise::value::Value;
+
+// How many calls are made of a session without lines.
+const FEW_CALLS: u32 = 12;
+
+// How many records a store has: for a few changes of each line or for more, with some left over; now and then too few.
+fn draw_records(random: &mut Random, pace: Pace, lines: u32) -> usize {
+    let room = match random.below(24) {
+        0 => 0,
+        1..12 => random.within(1, 3),
+        12..18 => random.within(2, 8),
+        _ if pace == Pace::Longest => random.within(2, 8),
+        _ => random.within(8, 60),
+    };
+    let share = room.saturating_add(1);
+    lines
+        .saturating_mul(share)
+        .saturating_add(random.below(lines)) as usize
+}
+
+// What inputs begin with; now and then there is one too many, or one too few.
+fn draw_starts(trial: &mut Trial, system: System, inputs: usize) -> Result<Vec<Level>, Stop> {
+    let count = match trial.random.below(50) {
+        0 => inputs.saturating_add(1),
+        1 => inputs.saturating_sub(1),
+        _ => inputs,
+    };
+    let mut starts = Vec::new(trial.alloc);
+    for _input in 0..count {
+        starts.push(system.draw(&mut trial.random))?;
+    }
+    Ok(starts)
+}
+
+fn spelled<V: Spelled>(trial: &Trial, levels: &[Level]) -> Result<Vec<V>, Stop> {
+    let mut values = Vec::new(trial.alloc);
+    for level in levels {
+        values.push(V::of(*level))?;
+    }
+    Ok(values)
+}
+
+// Makes calls at random, and now and then asks for all that can be asked.
+fn make_calls<V: Related, R: Value + Spelled>(
+    trial: &mut Trial,
+    pair: &mut Pair<V, R>,
+    system: System,
+    pace: Pace,
+    calls: u32,
+) -> Result<(), Stop> {
+    for _call in 0..calls {
+        let call = draw_call(&mut trial.random, &pair.tickwise, system, pace);
+        pair.call(trial, call)?;
+        if pace != Pace::Longest && trial.random.one_in(16) {
+            survey(trial, pair)?;
+            survey_distances(trial, pair)?;
+        }
+    }
+    Ok(())
+}
+
+// Does the job of a session again in another store, and compares both: when the other is made, and when it was given the same
+// and rests.
+fn compare_again<V: Related, R: Value + Spelled>(
+    trial: &mut Trial,
+    pair: &Pair<V, R>,
+    system: System,
+    records: usize,
+    job: Job,
+) -> Result<(), Stop> {
+    let mut store = blank::<V>(trial, system, records)?;
+    let starts = spelled::<V>(trial, job.starts)?;
+    let mut again = Session::make(netlist_of(job.circuit)?, &mut store, &starts);
+    let starts = spelled::<R>(trial, job.starts)?;
+    let made = tickwise::session::Session::make(trial.alloc, job.circuit, records, &starts)?;
+    let same = same_stores(&made, &pair.tickwise)?;
+    let answer = Answer::Truth(pair.engine.same_store(&again));
+    compare(Asked::SameStore, answer, Answer::Truth(same))?;
+    if !same {
+        count(&mut trial.counts.unlike);
+    }
+    do_again(trial, &mut again, job.log)?;
+    let same = Answer::Truth(pair.engine.same_store(&again));
+    compare(Asked::SameStore, same, Answer::Truth(true))?;
+    count(&mut trial.counts.again);
+    Ok(())
+}
+
+// Whether two sessions on tables must have equal stores.
+fn same_stores<R: Value>(
+    left: &tickwise::session::Session<R>,
+    right: &tickwise::session::Session<R>,
+) -> Result<bool, Stop> {
+    let left = left.store()?;
+    let right = right.store()?;
+    let mut same = left.len() == right.len();
+    for (record, other) in left.iter().zip(right.iter()) {
+        same &= record.tick == other.tick && record.value.same(other.value);
+    }
+    Ok(same)
+}
+
+// Brings both sessions to rest, and compares all.
+fn rest<V: Related, R: Value + Spelled>(
+    trial: &mut Trial,
+    pair: &mut Pair<V, R>,
+) -> Result<(), Stop> {
+    pair.call(trial, Call::RunToRest)?;
+    survey(trial, pair)?;
+    survey_distances(trial, pair)?;
+    for line in 1..=pair.tickwise.circuit().lines() {
+        if pair.tickwise.is_full(line) {
+            count(&mut trial.counts.full);
+        }
+    }
+    Ok(())
+}
+
+// What a job is done with.
+#[derive(Drop)]
+struct Desk<'c> {
+    system: System,
+    pace: Pace,
+    circuit: &'c Circuit,
+    records: usize,
+    starts: Vec<Level>,
+}
+
+// Whether both make a session, or both refuse with the same number.
+fn check<V: Related, R: Value + Spelled>(
+    trial: &mut Trial,
+    desk: &Desk,
+    netlist: &Netlist,
+) -> Result<Answer, Stop> {
+    let store = blank::<V>(trial, desk.system, desk.records)?;
+    let starts = spelled::<V>(trial, &desk.starts)?;
+    let answer = engine_answer(Session::check(netlist, &store, &starts));
+    let starts = spelled::<R>(trial, &desk.starts)?;
+    let expected = tickwise::session::Session::check(desk.circuit, desk.records, &starts);
+    compare(Asked::Making, answer, tickwise_answer(expected))?;
+    trial.counts.note(Name::Make, answer);
+    Ok(answer)
+}
+
+// Compares a session at rest with others that do its job.
+fn compare_others<V: Related, R: Value + Spelled>(
+    trial: &mut Trial,
+    desk: &Desk,
+    pair: &Pair<V, R>,
+) -> Result<(), Stop> {
+    let job = Job {
+        circuit: desk.circuit,
+        starts: &desk.starts,
+        log: &pair.log,
+    };
+    compare_again(trial, pair, desk.system, desk.records, job)?;
+    V::compare_related(trial, &pair.engine, job)
+}
+
+// Does a job in a session with lines.
+fn do_job<V: Related, R: Value + Spelled>(
+    trial: &mut Trial,
+    desk: &Desk,
+    pair: &mut Pair<V, R>,
+) -> Result<(), Stop> {
+    trial.counts.note_session(desk.system);
+    survey(trial, pair)?;
+    let calls = desk.pace.calls(&mut trial.random);
+    make_calls(trial, pair, desk.system, desk.pace, calls)?;
+    rest(trial, pair)?;
+    compare_others(trial, desk, pair)
+}
+
+// Makes both sessions, which are without lines where that is refused, and does a job.
+fn work<V: Related, R: Value + Spelled>(
+    trial: &mut Trial,
+    desk: &Desk,
+    netlist: Netlist,
+) -> Result<(), Stop> {
+    let made = check::<V, R>(trial, desk, &netlist)? == Answer::Done;
+    let nothing = Circuit::empty(trial.alloc);
+    let circuit = if made { desk.circuit } else { &nothing };
+    let mut store = blank::<V>(trial, desk.system, desk.records)?;
+    let starts = spelled::<V>(trial, &desk.starts)?;
+    let expected_starts = spelled::<R>(trial, &desk.starts)?;
+    let mut pair = Pair {
+        engine: Session::make(netlist, &mut store, &starts),
+        tickwise: tickwise::session::Session::make(
+            trial.alloc,
+            circuit,
+            desk.records,
+            &expected_starts,
+        )?,
+        log: Vec::new(trial.alloc),
+        calls: 0,
+    };
+    if made {
+        do_job(trial, desk, &mut pair)?;
+    } else {
+        make_calls(trial, &mut pair, desk.system, desk.pace, FEW_CALLS)?;
+        survey(trial, &mut pair)?;
+    }
+    let expected = pair.tickwise.store()?;
+    drop(pair);
+    compare_store(trial, desk.system, &store, &expected)
+}
+
+// Draws the rest of a job, and does it.
+pub fn simulate<V: Related, R: Value + Spelled>(
+    trial: &mut Trial,
+    system: System,
+    pace: Pace,
+    circuit: &Circuit,
+    netlist: Netlist,
+) -> Result<(), Stop> {
+    let desk = Desk {
+        system,
+        pace,
+        circuit,
+        records: draw_records(&mut trial.random, pace, circuit.lines()),
+        starts: draw_starts(trial, system, circuit.inputs)?,
+    };
+    work::<V, R>(trial, &desk, netlist)
+}

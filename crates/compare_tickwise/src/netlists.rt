@@ -1,0 +1,133 @@
+// A closed netlist compared with its circuit.
+use crate::answer::{Answer, Asked, engine_answer};
+use crate::counts::{Counts, count};
+use crate::kinds::kind_of;
+use crate::shape::MOST_DELAY;
+use crate::stop::{Stop, compare};
+use crate::trial::Trial;
+use netlist::closed::Netlist;
+use netlist::draft::Draft;
+use netlist::size::Size;
+use tickwise::circuit::{Circuit, Gate};
+use tickwise::walks::Walks;
+
+const SLOW: u32 = 100;
+
+// How many lines a gate reads at most.
+const MOST_READS: usize = 4;
+
+fn compare_sizes(netlist: &Netlist, circuit: &Circuit) -> Result<(), Stop> {
+    let inputs = Answer::Count(circuit.inputs);
+    compare(Asked::Inputs, Answer::Count(netlist.inputs()), inputs)?;
+    let gates = Answer::Count(circuit.gates.len());
+    compare(Asked::Gates, Answer::Count(netlist.gates()), gates)?;
+    let outputs = Answer::Count(circuit.outputs.len());
+    compare(Asked::Outputs, Answer::Count(netlist.outputs()), outputs)
+}
+
+// The gate on a line, and the lines that it reads.
+fn compare_gate(netlist: &Netlist, circuit: &Circuit, line: u32) -> Result<(), Stop> {
+    let row = netlist.row(line);
+    let gate = circuit.gate(line);
+    let answer = Answer::Gate(row.map(|row| (row.kind, row.delay)));
+    let expected = match gate {
+        None => None,
+        Some(gate) => Some((kind_of(gate.function), gate.delay)),
+    };
+    compare(Asked::Gate(line), answer, Answer::Gate(expected))?;
+    for place in 0..=MOST_READS {
+        let read = match &row {
+            None => None,
+            Some(row) => row.reads().get(place).copied(),
+        };
+        let expected = match gate {
+            None => None,
+            Some(gate) => gate.reads.get(place).copied(),
+        };
+        compare(
+            Asked::Read { line, place },
+            Answer::Line(read),
+            Answer::Line(expected),
+        )?;
+    }
+    Ok(())
+}
+
+fn count_gate(counts: &mut Counts, gate: &Gate, line: u32) {
+    counts.note_function(gate.function);
+    counts.note_reads(gate.reads.len());
+    if gate.delay >= SLOW {
+        count(&mut counts.slow);
+    }
+    if gate.delay == MOST_DELAY {
+        count(&mut counts.slowest);
+    }
+    if gate.reads.iter().any(|read| *read == line) {
+        count(&mut counts.reading_themselves);
+    }
+}
+
+// Which lines are looped, and how many.
+fn compare_loops(trial: &mut Trial, netlist: &Netlist, circuit: &Circuit) -> Result<(), Stop> {
+    let walks = Walks::new(trial.alloc, circuit)?;
+    let mut looped: usize = 0;
+    for line in 1..=circuit.lines() {
+        let is_looped = walks.is_looped(line);
+        compare(
+            Asked::Looped(line),
+            Answer::Truth(netlist.looped(line)),
+            Answer::Truth(is_looped),
+        )?;
+        if is_looped {
+            looped = looped.saturating_add(1);
+            count(&mut trial.counts.looped);
+        }
+    }
+    let answer = Answer::Count(netlist.looped_lines());
+    compare(Asked::LoopedLines, answer, Answer::Count(looped))
+}
+
+fn compare_outputs(netlist: &Netlist, circuit: &Circuit) -> Result<(), Stop> {
+    for place in 0..=circuit.outputs.len() {
+        let expected = circuit.outputs.get(place).copied();
+        let answer = Answer::Line(netlist.output(place));
+        compare(Asked::Output(place), answer, Answer::Line(expected))?;
+    }
+    Ok(())
+}
+
+pub fn compare_netlist(
+    trial: &mut Trial,
+    netlist: &Netlist,
+    circuit: &Circuit,
+) -> Result<(), Stop> {
+    compare_sizes(netlist, circuit)?;
+    compare_outputs(netlist, circuit)?;
+    for line in 0..=circuit.lines().saturating_add(1) {
+        compare_gate(netlist, circuit, line)?;
+        if let Some(gate) = circuit.gate(line) {
+            count_gate(&mut trial.counts, gate, line);
+        }
+    }
+    compare_loops(trial, netlist, circuit)
+}
+
+// The netlist of a circuit, anew for each session.
+pub fn netlist_of(circuit: &Circuit) -> Result<Netlist, Stop> {
+    let mut draft = Draft::new(Size {
+        inputs: circuit.inputs,
+        gates: circuit.gates.len(),
+        outputs: circuit.outputs.len(),
+    });
+    for gate in &circuit.gates {
+        let added = draft.add_gate(kind_of(gate.function), gate.delay, &gate.reads);
+        compare(Asked::AddGate(0), engine_answer(added), Answer::Done)?;
+    }
+    for line in &circuit.outputs {
+        let added = draft.add_output(*line);
+        compare(Asked::AddOutput(0), engine_answer(added), Answer::Done)?;
+    }
+    let (answer, netlist) = draft.close();
+    compare(Asked::Closing, engine_answer(answer), Answer::Done)?;
+    Ok(netlist)
+}

@@ -1,8 +1,8 @@
 // At which places of a list an item stands.
 #![tactic(auto)]
 
-ghost use Rattle.std.specs.Prelude.{◌≡◌, ◌≤◌, length};
-ghost use Rattle.occurrences.specs.Items.{LastBelow, Last, Before};
+ghost use Rattle.std.specs.Prelude.{◌≡◌, ◌<◌, IfSome};
+ghost use Rattle.occurrences.specs.Items.{Last, Before};
 
 use std::marker::Model;
 
@@ -49,7 +49,8 @@ impl Occurrences {
 
     // The last place of an item.
     pub fn last(&self, item: u32) -> Option<usize>
-        ensures { Last self.now item result }
+        ensures answers { Last self.now item result }
+        ensures within { IfSome result (λ place. place < 1024) }
     {
         match self.last.get(item as usize) {
             Some(Some(place)) => Some(*place as usize),
@@ -59,7 +60,8 @@ impl Occurrences {
 
     // The place before a place, of the same item.
     pub fn before(&self, place: usize) -> Option<usize>
-        ensures { Before self.now place result }
+        ensures answers { Before self.now place result }
+        ensures within { IfSome result (λ place. place < 1024) }
     {
         match self.before.get(place) {
             Some(Some(place)) => Some(*place as usize),

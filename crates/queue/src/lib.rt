@@ -1,13 +1,13 @@
 // Keys in numbered places, and which of them is least, kept up as they change.
 #![tactic(auto)]
 
-ghost use Rattle.std.specs.Prelude.{◌≡◌, ◌*◌, ◌<◌, ◌≤◌, length, take, drop, slice_set};
+ghost use Rattle.std.specs.Prelude.{◌≡◌, ◌<◌, slice_set, IfSome};
 ghost use Rattle.queue.specs.Keys.{lowest, block as keys_in, PlaceOf, First};
 
 use std::marker::Model;
 
 // A key of this size is none.
-const NONE: u32 = u32::MAX;
+pub const NO_KEY: u32 = u32::MAX;
 
 const BLOCK: usize = 32;
 
@@ -34,7 +34,7 @@ impl Model for Queue {
 fn lowest(keys: &[u32]) -> u32
     ensures { result ≡ lowest keys.now }
 {
-    let mut lowest = NONE;
+    let mut lowest = NO_KEY;
     for key in keys {
         lowest = lowest.min(*key);
     }
@@ -61,7 +61,7 @@ impl Queue {
     pub fn new(keys: [u32; 1024]) -> Queue
         ensures { result ≡ keys }
     {
-        let mut lowest_keys = [NONE; 32];
+        let mut lowest_keys = [NO_KEY; 32];
         for block in 0..32 {
             lowest_keys[block] = lowest(keys_of(&keys, block));
         }
@@ -85,10 +85,11 @@ impl Queue {
 
     // The place of the lowest key, the first where there are several; none where there is no key.
     pub fn first(&self) -> Option<usize>
-        ensures { First self.now result }
+        ensures answers { First self.now result }
+        ensures within { IfSome result (λ place. place < 1024) }
     {
         let least = lowest(&self.lowest);
-        if least == NONE {
+        if least == NO_KEY {
             return None;
         }
         let block = place_of(&self.lowest, least)?;

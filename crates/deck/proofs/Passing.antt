@@ -2,13 +2,10 @@
 use Rattle.std.proofs.Common.{◌≡◌, ℕ, zero, suc, ◌+◌, ◌*◌, ◌≤◌, true, List, [], ◌∷◌, ◌++◌, length, get_or, sym, refl, ap, ◌∙◌, inl, inr, arith}
 use Rattle.std.specs.List.{AllByRecursion}
 use Rattle.std.proofs.ByRecursion.{All-append}
-use Rattle.std.proofs.lemmas.Bool.{eqb-true}
 use Rattle.std.proofs.lemmas.List.Sums.{AllPass-from_list_all}
 use Rattle.std.specs.Int.{is_in_range}
-use Rattle.netlist.specs.declared.kind.Kind.{Kind}
-use Rattle.netlist.specs.declared.kind.Kind.TheVariants.{Buf, Not, And, Or, Xor, Nand, Nor, Xnor}
 use Rattle.netlist.specs.Gates.{Gate, fits}
-use Rattle.netlist.proofs.Ranges.{bounds}
+use Rattle.netlist.proofs.Ranges.{bounds, count_fits}
 use Rattle.deck.specs.Progress.{Expected, gate_next}
 use Rattle.deck.specs.Records.{ReadsShown}
 use Rattle.deck.specs.Rows.{Row, header, gate, text}
@@ -28,16 +25,6 @@ first_failed_one r (v ∷ vs) t u (inl a) (inl b) = a.0 ∙ sym b.0
 first_failed_one r (v ∷ vs) t u (inl a) (inr b) = absurd (a.1 b.0)
 first_failed_one r (v ∷ vs) t u (inr a) (inl b) = absurd (b.1 a.0)
 first_failed_one r (v ∷ vs) t u (inr a) (inr b) = first_failed_one r vs t u a.1 b.1
-
-count_fits : (k : Kind) (n : ℕ) → fits k n ≡ true → (1 ≤ n) × (n ≤ 4)
-count_fits Buf n e = omega (arith, eqb-true n 1 e)
-count_fits Not n e = omega (arith, eqb-true n 1 e)
-count_fits And n e = omega (arith, bounds 2 4 n e)
-count_fits Or n e = omega (arith, bounds 2 4 n e)
-count_fits Xor n e = omega (arith, bounds 2 4 n e)
-count_fits Nand n e = omega (arith, bounds 2 4 n e)
-count_fits Nor n e = omega (arith, bounds 2 4 n e)
-count_fits Xnor n e = omega (arith, bounds 2 4 n e)
 
 gate_long : (n : ℕ) → 1 ≤ n → n ≤ 4 → has (14 + 4 * n) (18 ∷ 22 ∷ 26 ∷ 30 ∷ []) ≡ true
 gate_long zero low high = absurd (omega arith)

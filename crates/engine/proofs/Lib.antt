@@ -12,11 +12,13 @@ pub mod Made
 pub mod Motions
 pub mod Moving
 pub mod Parts
+pub mod Queueing
 pub mod Reading
 pub mod Recordings
 pub mod Retelling
 pub mod Runs
 pub mod Sessions
+pub mod Shown
 pub mod Stepping
 pub mod Takes
 pub mod Telling

@@ -28,14 +28,14 @@ module _ {V M : Type 0} (meaning : V → M) (system : System M) (p : Panel) (sto
   abbrev next : ℕ
   next = a.front n + (gate_of_line p.circuit n).delay
 
-  told : Tells s system.start a n next (p.progress n).kept (map (seen meaning) (part p.stride n store))
+  pub told : Tells s system.start a n next (p.progress n).kept (map (seen meaning) (part p.stride n store))
   told = subst (λ to. Tells s system.start a n to (p.progress n).kept (map (seen meaning) (part p.stride n store))) (settled_gate (topology p.circuit) a n a_gate) (h.shows.records n (inr a_gate))
 
-  reaches : a.trim ≤ next
+  pub reaches : a.trim ≤ next
   reaches = let r = (in_order meaning system p store a is h).trim_within_fronts n a_gate in omega arith
 
   -- as many changes are kept as there are
-  kept_are : (ticks : List ℕ) → Changes (Stable s a n) next a.trim ticks → length ticks ≡ (p.progress n).kept
+  pub kept_are : (ticks : List ℕ) → Changes (Stable s a n) next a.trim ticks → length ticks ≡ (p.progress n).kept
   kept_are ticks changes = ap length (one_list changes told.changes) ∙ told.count
 
   pub idle : goal (topology p.circuit) a n ≤ a.front n → Rests s a n

@@ -16,9 +16,10 @@ use Rattle.values.specs.Systems.{System}
 use Rattle.events.specs.declared.record.EventRecord.{EventRecord}
 use Rattle.engine.specs.Answers.{Taking}
 use Rattle.engine.specs.Lines.{Panel, room}
-use Rattle.engine.specs.Orders.{MovesFirst}
+use Rattle.engine.specs.Orders.{MovesFirst, Queued, QueuedBut}
 use Rattle.engine.specs.Standing.{machine_of, Stands, Keeps}
 use Rattle.engine.proofs.Books.{Sure}
+use Rattle.engine.proofs.Choosing.{queued_but}
 
 pub same_machine : {M : Type 0} {X : Type 0} (system : System M) (p q : Panel) (old new : List X) → Keeps p q old new → machine_of system q ≡ machine_of system p
 same_machine system p q old new keeps = ap₂ (λ c k. machine system c (k - 1)) keeps.circuit keeps.stride
@@ -57,12 +58,17 @@ pub record Under {V M : Type 0} (meaning : V → M) (system : System M) (s : Mac
   pub takes : Takes s count a now
   pub stands : Stands meaning system q store now
 
+-- and a queue has the keys of all lines
+pub record UnderQueue {V M : Type 0} (meaning : V → M) (system : System M) (s : Machine M) (a : Account M) (count : ℕ) (q : Panel) (store : List (EventRecord V)) (queue : List ℕ) : Type 0 where
+  pub under : Under meaning system s a count q store
+  pub queued : Queued (machine_of system q) under.now queue
+
 module _ {V M : Type 0} (meaning : V → M) (system : System M) (p q : Panel) (old store : List (EventRecord V)) (keeps : Keeps p q old store) (a : Account M) (count : ℕ) (under : Under meaning system (machine_of system p) a count q store) where
   same : machine_of system q ≡ machine_of system p
   same = same_machine system p q old store keeps
 
   -- one take more
-  pub one_more : (n : ℕ) (answer : Result ℕ ℕ) (b : Account M) (r : Panel) (store' : List (EventRecord V)) → MovesFirst (machine_of system q) under.now n → Taking (machine_of system q) under.now n answer b → Stands meaning system r store' b → Under meaning system (machine_of system p) a (count + 1) r store'
+  one_more : (n : ℕ) (answer : Result ℕ ℕ) (b : Account M) (r : Panel) (store' : List (EventRecord V)) → MovesFirst (machine_of system q) under.now n → Taking (machine_of system q) under.now n answer b → Stands meaning system r store' b → Under meaning system (machine_of system p) a (count + 1) r store'
   one_more n answer b r store' first taking stands =
       let first_here : MovesFirst (machine_of system p) under.now n = subst (λ s. MovesFirst s under.now n) same first in
       let taking_here : Taking (machine_of system p) under.now n answer b = subst (λ s. Taking s under.now n answer b) same taking in
@@ -72,6 +78,17 @@ module _ {V M : Type 0} (meaning : V → M) (system : System M) (p q : Panel) (o
         takes = subst (Takes (machine_of system p) (count + 1) a) (sym accepted.after) (takes_on (machine_of system p) under.takes (Takes.one_more (comes_first (machine_of system p) first_here accepted.can) accepted.can Takes.none));
         stands = stands;
       }
+
+  -- after it, a queue has the keys of all lines but that of the gate that was taken and those of its line's readers
+  pub queue_left : (n : ℕ) (answer : Result ℕ ℕ) (b : Account M) (r : Panel) (store' : List (EventRecord V)) (queue : List ℕ) → Keeps q r store store' → CanMove (machine_of system q) under.now n → Taking (machine_of system q) under.now n answer b → Queued (machine_of system q) under.now queue → QueuedBut (machine_of system r) b n queue
+  queue_left n answer b r store' queue kept moves taking queued =
+      let accepted = accepts (machine_of system q) moves taking in
+      subst (λ s. QueuedBut s b n queue) (sym (same_machine system q r store store' kept)) (subst (λ d. QueuedBut (machine_of system q) d n queue) (sym accepted.after) (queued_but (machine_of system q) under.now n accepted.front queue queued))
+
+  -- one take more, after which the keys are told again
+  pub one_more_queued : (n : ℕ) (answer : Result ℕ ℕ) (b : Account M) (r : Panel) (store' : List (EventRecord V)) (queue : List ℕ) → MovesFirst (machine_of system q) under.now n → Taking (machine_of system q) under.now n answer b → Stands meaning system r store' b → Queued (machine_of system r) b queue → UnderQueue meaning system (machine_of system p) a (count + 1) r store' queue
+  unfolding one_more
+  one_more_queued n answer b r store' queue first taking stands queued = record { under = one_more n answer b r store' first taking stands; queued = queued }
 
   -- the takes of one run more
   pub one_run_more : {most ran : ℕ} {ending : Ending} {b : Account M} (r : Panel) (store' : List (EventRecord V)) → Run (machine_of system q) most under.now b ran ending → Stands meaning system r store' b → Under meaning system (machine_of system p) a (count + ran) r store'

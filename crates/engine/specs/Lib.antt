@@ -7,6 +7,7 @@ pub mod Makings
 pub mod Orders
 pub mod Panels
 pub mod Progresses
+pub mod Readers
 pub mod Recordings
 pub mod Sessions
 pub mod Standing

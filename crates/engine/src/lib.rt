@@ -6,6 +6,7 @@ mod evaluation;
 mod giving;
 mod lines;
 mod making;
+mod readers;
 mod records;
 mod running;
 pub mod session;

@@ -1,22 +1,28 @@
 // The lines of a session.
 ghost use Rattle.std.specs.Prelude.{◌≡◌, length, replicate};
 ghost use Rattle.engine.specs.Progresses.{KeptFit};
+ghost use Rattle.engine.specs.Readers.{AllRead};
+ghost use Rattle.netlist.specs.Closed.{circuit};
 ghost use Rattle.netlist.specs.GateRow.{at_start};
 
+use crate::readers::{Readers, readers_of};
 use netlist::closed::Netlist;
 use netlist::progress::Progress;
 use netlist::row::GateRow;
 
 // What a session knows of its lines, apart from their records: the netlist, whose rows tell how far the gates have come,
-// how far the inputs have come, the tick from which on changes are kept, and how many records each line has.
+// how far the inputs have come, the tick from which on changes are kept, how many records each line has, and which gates
+// read it.
 #[derive(Drop)]
 pub(crate) struct Lines {
     pub netlist: Netlist,
     pub inputs: [Progress; 256],
     pub trim: u32,
     pub stride: usize,
+    pub readers: Readers,
     ghost table: { length inputs ≡ 256 },
     ghost kept_fit: { KeptFit netlist inputs stride },
+    ghost all_read: { AllRead (circuit netlist) readers },
 }
 
 // Inputs that have not come further than tick 0.
@@ -28,7 +34,6 @@ fn not_moved() -> [Progress; 256]
 
 impl Lines {
     ghost use Rattle.std.specs.Prelude.{ℕ, ◌-◌, ◌+◌, ◌*◌, ◌<◌, ◌≤◌, ◌≢◌, min, true, Contains, fold, map, Decides, MatchOption, IfSome};
-    ghost use Rattle.netlist.specs.Closed.{circuit};
     ghost use Rattle.netlist.specs.Walks.{Looped};
     ghost use Rattle.engine.specs.Lines.{panel, extent};
     ghost use Rattle.engine.specs.Panels.{moved, settled_in, last_tick, IsLineOf};
@@ -41,11 +46,13 @@ impl Lines {
         ensures { panel result ≡ record { circuit = circuit netlist; stride = stride; trim = 0; progress = λ n. at_start } }
     {
         netlist.rewind();
+        let readers = readers_of(&netlist);
         Lines {
             netlist,
             inputs: not_moved(),
             trim: 0,
             stride,
+            readers,
         }
     }
 

@@ -1,8 +1,8 @@
 // Which gate is taken next, and runs.
-ghost use Rattle.std.specs.Prelude.{◌≡◌, ℕ, ◌+◌, ◌<◌, true, false, Decides, MatchOption};
+ghost use Rattle.std.specs.Prelude.{◌≡◌, ℕ, ◌<◌, ◌≤◌, true, false, length, Decides};
 ghost use Rattle.engine.specs.Answers.{ending_of};
 ghost use Rattle.engine.specs.Lines.{panel, Holds};
-ghost use Rattle.engine.specs.Orders.{MovesFirst, BestBelow};
+ghost use Rattle.engine.specs.Orders.{Keyed, Queued, QueuedBut, KeysStay, KeyedAt};
 ghost use Rattle.engine.specs.Standing.{machine_of, Stands, Keeps};
 ghost use Rattle.semantics.specs.Accounts.{Account};
 ghost use Rattle.semantics.specs.Circuits.{gate_of_line, topology};
@@ -17,6 +17,8 @@ use crate::records::events_of;
 use crate::taking::take;
 use events::record::EventRecord;
 use netlist::row::GateRow;
+use occurrences::Occurrences;
+use queue::{NO_KEY, Queue};
 use values::system::ValueSystem;
 
 // Whether a gate's front can move: it is below its goal, and there is room for the change that may come next.
@@ -46,57 +48,68 @@ fn can_move<V: ValueSystem>(
     next.value.same(last.value)
 }
 
-// A gate's line, and its front.
-#[derive(Clone, Copy)]
-pub(crate) struct Candidate {
-    pub line: u32,
-    pub front: u32,
-}
-
-// Whether a front is smaller than that of the best so far, if there is one.
-fn leads(best: Option<Candidate>, front: u32) -> bool
-    ensures { MatchOption best (result ≡ true) (λ before. Decides result (front < before.front)) }
+// The key of a line in a queue: its gate's front, where that can move.
+fn key<V: ValueSystem>(lines: &Lines, store: &[EventRecord<V>], line: u32) -> u32
+    requires { Holds (panel lines.now) store.now }
+    ensures { (a : Account V.Sense) → Stands V.meaning V.system (panel lines.now) store.now a → Keyed (machine_of V.system (panel lines.now)) a line result }
 {
-    match best {
-        Some(before) => front < before.front,
-        None => true,
+    match lines.gate(line) {
+        Some(row) if can_move(lines, store, line, &row) => row.progress.tick,
+        _ => NO_KEY,
     }
 }
 
-// The first of some gates whose fronts can move, with one gate more.
-fn better<V: ValueSystem>(
+// The queue of all lines.
+fn queue_of<V: ValueSystem>(lines: &Lines, store: &[EventRecord<V>]) -> Queue
+    requires { Holds (panel lines.now) store.now }
+    ensures { (a : Account V.Sense) → Stands V.meaning V.system (panel lines.now) store.now a → Queued (machine_of V.system (panel lines.now)) a result }
+{
+    let mut keys = [NO_KEY; 1024];
+    for place in 0..lines.netlist.lines() {
+        keys[place] = key(lines, store, place as u32 + 1);
+    }
+    Queue::new(keys)
+}
+
+// Whether no front can move.
+pub(crate) fn at_rest<V: ValueSystem>(lines: &Lines, store: &[EventRecord<V>]) -> bool
+    requires { Holds (panel lines.now) store.now }
+    ensures { (a : Account V.Sense) → Stands V.meaning V.system (panel lines.now) store.now a → Decides result (Rest (machine_of V.system (panel lines.now)) a) }
+{
+    queue_of(lines, store).first().is_none()
+}
+
+// Sets the keys of the gates that read a line at one place of those that they read.
+fn requeue_at<V: ValueSystem>(
+    queue: &mut Queue,
     lines: &Lines,
     store: &[EventRecord<V>],
-    best: Option<Candidate>,
+    readers: &Occurrences,
     line: u32,
-) -> Option<Candidate>
-    requires { Holds (panel lines.now) store.now }
-    ensures { (a : Account V.Sense) → Stands V.meaning V.system (panel lines.now) store.now a → BestBelow (machine_of V.system (panel lines.now)) a line best → BestBelow (machine_of V.system (panel lines.now)) a (line + 1) result }
+)
+    requires holds { Holds (panel lines.now) store.now }
+    requires numbered { (0 < line) × (line ≤ 1024) }
+    ensures long { length queue.new ≡ length queue.old }
+    ensures keeps { (a : Account V.Sense) → Stands V.meaning V.system (panel lines.now) store.now a → KeysStay (machine_of V.system (panel lines.now)) a queue.old queue.new }
+    ensures sets { (a : Account V.Sense) → Stands V.meaning V.system (panel lines.now) store.now a → KeyedAt (machine_of V.system (panel lines.now)) a readers.now line queue.new }
 {
-    let Some(row) = lines.gate(line) else {
-        return best;
-    };
-    let front = row.progress.tick;
-    if !leads(best, front) {
-        return best;
-    }
-    if can_move(lines, store, line, &row) {
-        Some(Candidate { line, front })
-    } else {
-        best
+    let mut next = readers.last(line);
+    while let Some(place) = next {
+        queue.set(place, key(lines, store, place as u32 + 1));
+        next = readers.before(place);
     }
 }
 
-// Of the gates whose fronts can move, the one of the smallest front, and of those the one of the smallest line.
-pub(crate) fn first<V: ValueSystem>(lines: &Lines, store: &[EventRecord<V>]) -> Option<Candidate>
-    requires { Holds (panel lines.now) store.now }
-    ensures { (a : Account V.Sense) → Stands V.meaning V.system (panel lines.now) store.now a → MatchOption result (Rest (machine_of V.system (panel lines.now)) a) (λ next. MovesFirst (machine_of V.system (panel lines.now)) a next.line) }
+// Sets the keys of a line that has come further and of the gates that read it.
+fn requeue<V: ValueSystem>(queue: &mut Queue, lines: &Lines, store: &[EventRecord<V>], line: u32)
+    requires holds { Holds (panel lines.now) store.now }
+    requires numbered { (0 < line) × (line ≤ 1024) }
+    ensures { (a : Account V.Sense) → Stands V.meaning V.system (panel lines.now) store.now a → QueuedBut (machine_of V.system (panel lines.now)) a line queue.old → Queued (machine_of V.system (panel lines.now)) a queue.new }
 {
-    let mut best = None;
-    for place in 0..lines.netlist.lines() {
-        best = better(lines, store, best, place as u32 + 1);
+    queue.set(line as usize - 1, key(lines, store, line));
+    for readers in &lines.readers {
+        requeue_at(queue, lines, store, readers, line);
     }
-    best
 }
 
 // How a run ended: at rest, where no front can move, or with more to take.
@@ -113,22 +126,26 @@ pub struct Ran {
     pub ending: Ending,
 }
 
-// Takes gates, each time the first, until so many takes are made or no front can move.
+// Takes gates, each time the one of the smallest front that can move, and of those the smallest line, until so many takes are
+// made or no front can move. After a take only that gate and those that read its line are looked at again.
 pub(crate) fn run<V: ValueSystem>(lines: &mut Lines, store: &mut [EventRecord<V>], most: u32) -> Ran
     requires { Holds (panel lines.old) store.old }
     ensures keeps { Keeps (panel lines.old) (panel lines.new) store.old store.new }
     ensures answers { (a : Account V.Sense) → Stands V.meaning V.system (panel lines.old) store.old a → (b : Account V.Sense) × Run (machine_of V.system (panel lines.old)) most a b result.takes (ending_of result.ending) × Stands V.meaning V.system (panel lines.new) store.new b }
-    ensures rests { ending_of result.ending ≡ Logs.Ending.rest → (b : Account V.Sense) → Stands V.meaning V.system (panel lines.new) store.new b → Rest (machine_of V.system (panel lines.new)) b }
+    ensures rests { ending_of result.ending ≡ Logs.Ending.rest → (a : Account V.Sense) → Stands V.meaning V.system (panel lines.old) store.old a → (b : Account V.Sense) → Stands V.meaning V.system (panel lines.new) store.new b → Rest (machine_of V.system (panel lines.new)) b }
 {
+    let mut queue = queue_of(lines, store);
     let mut takes = 0;
-    while let Some(next) = first(lines, store) {
+    while let Some(place) = queue.first() {
         if takes == most {
             return Ran {
                 takes,
                 ending: Ending::More,
             };
         }
-        let _settled = take(lines, store, next.line);
+        let line = place as u32 + 1;
+        let _settled = take(lines, store, line);
+        requeue(&mut queue, lines, store, line);
         takes += 1;
     }
     Ran {

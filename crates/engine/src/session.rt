@@ -104,8 +104,8 @@ impl<'a, V: ValueSystem> Session<'a, V> {
         ensures keeps { KeepsItsOwn self.old self.new }
         ensures without_lines { HasNoLines self.old → (result.takes ≡ 0) × (ending_of result.ending ≡ Logs.Ending.rest) }
         ensures answers { (a : Account V.Sense) → StandsFor V.meaning V.system self.old a → (b : Account V.Sense) × Run (machine_in V.system self.old) most a b result.takes (ending_of result.ending) × StandsFor V.meaning V.system self.new b }
-        ensures rests { ending_of result.ending ≡ Logs.Ending.rest → (b : Account V.Sense) → StandsFor V.meaning V.system self.new b → Rest (machine_in V.system self.new) b }
-        ensures settled_to_distances { ending_of result.ending ≡ Logs.Ending.rest → (b : Account V.Sense) → StandsFor V.meaning V.system self.new b → SettledToDistances (machine_in V.system self.new) b }
+        ensures rests { ending_of result.ending ≡ Logs.Ending.rest → (a : Account V.Sense) → StandsFor V.meaning V.system self.old a → (b : Account V.Sense) → StandsFor V.meaning V.system self.new b → Rest (machine_in V.system self.new) b }
+        ensures settled_to_distances { ending_of result.ending ≡ Logs.Ending.rest → (a : Account V.Sense) → StandsFor V.meaning V.system self.old a → (b : Account V.Sense) → StandsFor V.meaning V.system self.new b → SettledToDistances (machine_in V.system self.new) b }
     {
         running::run(&mut self.lines, self.store, most)
     }
@@ -160,7 +160,7 @@ impl<'a, V: ValueSystem> Session<'a, V> {
         ensures decides_rest { (a : Account V.Sense) → StandsFor V.meaning V.system self.now a → Decides result (Rest (machine_in V.system self.now) a) }
         ensures settled_to_distances { result ≡ true → (a : Account V.Sense) → StandsFor V.meaning V.system self.now a → SettledToDistances (machine_in V.system self.now) a }
     {
-        running::first(&self.lines, &*self.store).is_none()
+        running::at_rest(&self.lines, &*self.store)
     }
 
     // The netlist that is simulated.

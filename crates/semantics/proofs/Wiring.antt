@@ -2,11 +2,9 @@
 use Rattle.std.proofs.Common.{◌≡◌, ℕ, zero, suc, ◌-◌, ◌<◌, ◌≤◌, Bool, true, false, cond, ltb, ◌&&◌, [], ◌∷◌, length, get_or, refl, ap, sym, ◌∙◌, subst, inl, inr, ⊎_elim, arith}
 use Rattle.std.proofs.lemmas.Bool.{ltb-true, ltb-false, lt-ltb, le-ltb, and_parts, cases_lt}
 use Rattle.std.proofs.lemmas.List.Sums.{AllPass-from_list_all}
-use Rattle.netlist.specs.declared.kind.Kind.{Kind}
-use Rattle.netlist.specs.declared.kind.Kind.TheVariants.{Buf, Not, And, Or, Xor, Nand, Nor, Xnor}
 use Rattle.netlist.specs.Gates.{Circuit, legal, fits, delay_fits, on_lines}
 use Rattle.netlist.specs.Walks.{no_gate, reads, Reads}
-use Rattle.netlist.proofs.Ranges.{bounds}
+use Rattle.netlist.proofs.Ranges.{bounds, count_fits}
 use Rattle.netlist.proofs.Reading.{reads_at_gate, read_bounds}
 use Rattle.semantics.specs.Machines.{IsInput, IsGate, IsLine, ReadsFrom}
 use Rattle.semantics.specs.Machines.Driver.{undriven, input, gate}
@@ -56,21 +54,6 @@ reads_of c n m read = record { place = read.0; within = read.1; is = read_at (re
     read_at (j ∷ js) zero m within is = is
     read_at (j ∷ js) (suc k) m within is = read_at js k m (omega arith) is
 
--- every kind takes some line
-none_fit : (kind : Kind) → fits kind 0 ≡ true → ⊥
-none_fit Buf is = cc
-none_fit Not is = cc
-none_fit And is = cc
-none_fit Or is = cc
-none_fit Xor is = cc
-none_fit Nand is = cc
-none_fit Nor is = cc
-none_fit Xnor is = cc
-
-some_fit : (kind : Kind) (k : ℕ) → fits kind k ≡ true → 0 < k
-some_fit kind zero is = absurd (none_fit kind is)
-some_fit kind (suc k) is = omega arith
-
 module _ (c : Circuit) (wired : Wired c) (n : ℕ) (a_gate : IsGate (topology c) n) where
   its_gate : legal (lines c) (gate_of_line c n) ≡ true
   its_gate = let range = gate_range c n a_gate in AllPass-from_list_all (legal (lines c)) c.gates wired (n - suc c.inputs) no_gate (omega arith)
@@ -87,11 +70,17 @@ module _ (c : Circuit) (wired : Wired c) (n : ℕ) (a_gate : IsGate (topology c)
   pub gate_delay : (gate_of_line c n).delay ≤ 65535
   gate_delay = (bounds 1 65535 (gate_of_line c n).delay its_parts.0).1
 
-  pub gate_reads : 0 < length (reads c n)
-  gate_reads =
+  reads_count : (0 < length (reads c n)) × (length (reads c n) ≤ 4)
+  reads_count =
       let range = gate_range c n a_gate in
       let is = reads_at_gate c n (n - suc c.inputs) (omega arith) in
-      subst (λ ms. 0 < length ms) (sym is) (some_fit (gate_of_line c n).kind (length (gate_of_line c n).reads) its_parts.1)
+      subst (λ ms. (0 < length ms) × (length ms ≤ 4)) (sym is) (count_fits (gate_of_line c n).kind (length (gate_of_line c n).reads) its_parts.1)
+
+  pub gate_reads : 0 < length (reads c n)
+  gate_reads = reads_count.0
+
+  pub gate_reads_few : length (reads c n) ≤ 4
+  gate_reads_few = reads_count.1
 
   pub read_line : (m : ℕ) → Reads c n m → IsLine (topology c) m
   read_line m read = let b = read_bounds c (lines c) n m wired read in a_line c m b.0 b.1

@@ -64,9 +64,9 @@ returns-in-Rest-clause-answers g c a h =
     let answered = c.run-ran.ensures.answers under.now under.stands in
     let all = one_run_more meaning system p q c.args.store.now c.loop-runs.store so_far.keeps a c.loop-runs.takes under r c.run-ran.new.store answered.1 answered.2 in (
       all.now,
-      ends_at_rest meaning system p r c.args.store.now c.run-ran.new.store keeps a (c.loop-runs.takes + c.run-ran.result.takes) all (c.loop-runs.takes + c.run-ran.result.takes) (omega arith) (c.run-ran.ensures.rests (ap ending_of c.in-Rest.is) all.now all.stands),
+      ends_at_rest meaning system p r c.args.store.now c.run-ran.new.store keeps a (c.loop-runs.takes + c.run-ran.result.takes) all (c.loop-runs.takes + c.run-ran.result.takes) (omega arith) (c.run-ran.ensures.rests (ap ending_of c.in-Rest.is) under.now under.stands all.now all.stands),
       all.stands,
     )
 
 pub returns-in-Rest-clause-rests : goal.returns-in-Rest-clause-rests
-returns-in-Rest-clause-rests g c a h b stands = c.run-ran.ensures.rests (ap ending_of c.in-Rest.is) b stands
+returns-in-Rest-clause-rests g c a h b stands = let under = (c.loop-runs.invariant.full a h).under in c.run-ran.ensures.rests (ap ending_of c.in-Rest.is) under.now under.stands b stands

@@ -12,6 +12,7 @@ invariant_of-result c =
     let told : progress_in c.rewind.new.self c.not_moved.result ≡ λ n. at_start = ap (progress_in c.rewind.new.self) c.not_moved.ensures ∙ all_at_start c.rewind.new.self 256 c.rewind.ensures.tells_every_gate in
     record {
       table = ap length c.not_moved.ensures;
+      all_read = c.readers_of-readers.ensures;
       kept_fit = λ n some within. subst (λ (f : ℕ → Progress). (f n).kept < c.args.stride) (sym told) c.requires;
     }
 

@@ -11,8 +11,8 @@ returns-clause-without_lines g c none =
     none_run (machine_in g.V.ValueSystem.system c.args.self.now) nothing.account nothing.no_line (c.run.ensures.answers nothing.account nothing.stands).1
 
 pub returns-clause-settled_to_distances : goal.returns-clause-settled_to_distances
-returns-clause-settled_to_distances g c rests b stands =
+returns-clause-settled_to_distances g c rests a h b stands =
     let system = g.V.ValueSystem.system in
     let p = panel c.run.new.lines in
-    let rest = c.run.ensures.rests rests b stands in
+    let rest = c.run.ensures.rests rests a h b stands in
     settled_is_the_distance system p.circuit (room p) (sure c.run.new.lines).wired b stands.log rest

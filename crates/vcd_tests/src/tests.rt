@@ -3,4 +3,5 @@ mod base;
 mod drawings;
 mod dumps;
 mod examples;
+mod names;
 mod reader;

@@ -1,4 +1,4 @@
-// The worked logs of the rules.
+// The worked logs of the rules, and the limits of a netlist.
 use crate::circuit::{Circuit, Function};
 use crate::draft::Draft;
 use crate::refusal::Refusal;
@@ -29,6 +29,27 @@ fn drawn(alloc: Global, inputs: usize, rows: &[Row]) -> Result<Circuit, AllocErr
     }
     let _ = draft.add_output(1)?;
     Ok(draft.finish())
+}
+
+#[test]
+fn limits_of_a_netlist(rt: HostRuntime) {
+    let table = [
+        (1, 1, 1, Ok(())),
+        (256, 768, 256, Ok(())),
+        (0, 768, 256, Err(Refusal::OutOfRange)),
+        (256, 0, 256, Err(Refusal::OutOfRange)),
+        (256, 768, 0, Err(Refusal::OutOfRange)),
+        (257, 1, 1, Err(Refusal::OutOfRange)),
+        (1, 769, 1, Err(Refusal::OutOfRange)),
+        (1, 1, 257, Err(Refusal::OutOfRange)),
+    ];
+    for (inputs, gates, outputs, answer) in table {
+        assert_eq!(rt;
+            Draft::limits(inputs, gates, outputs),
+            answer,
+            "{inputs} inputs, {gates} gates, {outputs} outputs"
+        );
+    }
 }
 
 #[test]

@@ -1,4 +1,4 @@
-// The worked logs of the rules, and the limits of a netlist.
+// The worked logs of the rules, the limits of a netlist, and how many lines gates read.
 use crate::circuit::{Circuit, Function};
 use crate::draft::Draft;
 use crate::refusal::Refusal;
@@ -49,6 +49,16 @@ fn limits_of_a_netlist(rt: HostRuntime) {
             answer,
             "{inputs} inputs, {gates} gates, {outputs} outputs"
         );
+    }
+}
+
+#[test]
+fn lines_that_gates_read(rt: HostRuntime) {
+    for count in 0..6usize {
+        assert_eq!(rt; Function::Buf.takes(count), count == 1, "BUF of {count}");
+        assert_eq!(rt; Function::Not.takes(count), count == 1, "NOT of {count}");
+        let takes = (2..5).contains(&count);
+        assert_eq!(rt; Function::And.takes(count), takes, "AND of {count}");
     }
 }
 

@@ -22,6 +22,9 @@ use tickwise::value::Value;
 // How many calls are made of a session without lines.
 const FEW_CALLS: u32 = 12;
 
+// The refusal of taking a gate whose line is full.
+const FULL: u8 = 16;
+
 // How many records a store has: for a few changes of each line or for more, with some left over; now and then too few.
 fn draw_records(random: &mut Random, pace: Pace, lines: u32) -> usize {
     let room = match random.below(24) {
@@ -119,6 +122,22 @@ fn same_stores<R: Value>(
     Ok(same)
 }
 
+// Whether a line is full at rest: its gate is refused as full, and not as idle.
+fn compare_full<V: Related, R: Value + Spelled>(
+    trial: &mut Trial,
+    pair: &mut Pair<V, R>,
+    line: u32,
+) -> Result<(), Stop> {
+    let is_full = pair.tickwise.is_full(line);
+    let answer = pair.ask(Call::Take(line))?;
+    let answer = Answer::Truth(answer == Answer::Refused(FULL));
+    compare(Asked::Full(line), answer, Answer::Truth(is_full))?;
+    if is_full {
+        count(&mut trial.counts.full);
+    }
+    Ok(())
+}
+
 // Brings both sessions to rest, and compares all.
 fn rest<V: Related, R: Value + Spelled>(
     trial: &mut Trial,
@@ -128,9 +147,7 @@ fn rest<V: Related, R: Value + Spelled>(
     survey(trial, pair)?;
     survey_distances(trial, pair)?;
     for line in 1..=pair.tickwise.circuit().lines() {
-        if pair.tickwise.is_full(line) {
-            count(&mut trial.counts.full);
-        }
+        compare_full(trial, pair, line)?;
     }
     Ok(())
 }

@@ -1,4 +1,4 @@
-// The worked logs of the rules.
+// The worked logs of the rules, the limits of a netlist, and how many lines gates read.
 use crate::circuit::{Circuit, Function};
 use crate::draft::Draft;
 use crate::refusal::Refusal;
@@ -29,6 +29,37 @@ fn drawn(alloc: Global, inputs: usize, rows: &[Row]) -> Result<Circuit, AllocErr
     }
     let _ = draft.add_output(1)?;
     Ok(draft.finish())
+}
+
+#[test]
+fn limits_of_a_netlist(rt: HostRuntime) {
+    let table = [
+        (1, 1, 1, Ok(())),
+        (256, 768, 256, Ok(())),
+        (0, 768, 256, Err(Refusal::OutOfRange)),
+        (256, 0, 256, Err(Refusal::OutOfRange)),
+        (256, 768, 0, Err(Refusal::OutOfRange)),
+        (257, 1, 1, Err(Refusal::OutOfRange)),
+        (1, 769, 1, Err(Refusal::OutOfRange)),
+        (1, 1, 257, Err(Refusal::OutOfRange)),
+    ];
+    for (inputs, gates, outputs, answer) in table {
+        assert_eq!(rt;
+            Draft::limits(inputs, gates, outputs),
+            answer,
+            "{inputs} inputs, {gates} gates, {outputs} outputs"
+        );
+    }
+}
+
+#[test]
+fn lines_that_gates_read(rt: HostRuntime) {
+    for count in 0..6usize {
+        assert_eq!(rt; Function::Buf.takes(count), count == 1, "BUF of {count}");
+        assert_eq!(rt; Function::Not.takes(count), count == 1, "NOT of {count}");
+        let takes = (2..5).contains(&count);
+        assert_eq!(rt; Function::And.takes(count), takes, "AND of {count}");
+    }
 }
 
 #[test]

@@ -4,8 +4,8 @@ use Rattle.std.specs.Fmt.{digits}
 use Rattle.std.specs.List.{list_all}
 use Rattle.std.proofs.lemmas.Bool.{and_parts, not-true}
 use Rattle.netlist.specs.declared.kind.Kind.{Kind}
-use Rattle.netlist.specs.Drafts.{Sheet}
-use Rattle.netlist.specs.Gates.{Circuit, nothing}
+use Rattle.netlist.specs.Drafts.{Sheet, within_limits, lines, complete}
+use Rattle.netlist.specs.Gates.{Circuit, legal, on_lines, nothing}
 use Rattle.netlist.specs.Judging.{LowestFree}
 use Rattle.netlist.specs.Walks.{Walk, Reads, no_gate}
 use Rattle.columns.proofs.Decimals.{no_number}
@@ -13,7 +13,7 @@ use Rattle.columns.proofs.Spelled.{after_blanks_same, decimal_no_blank, digit_de
 use Rattle.deck.specs.Closing.{Refused, ClosedOutcome}
 use Rattle.deck.specs.Faults.{Told}
 use Rattle.deck.specs.Outcomes.{FirstFault, Fails, Unended, used, fault}
-use Rattle.deck.specs.Progress.{Begun, going, rows_begun}
+use Rattle.deck.specs.Progress.{Begun, Whole, going, rows_begun}
 use Rattle.deck.specs.Rows.{spell}
 use Rattle.deck.specs.Tests.{Shows, figure, range}
 use Rattle.deck.proofs.Numbers.{shows_one, narrow_small}
@@ -28,6 +28,22 @@ unended (b ∷ bs) all = let parts = and_parts (not (eqb b 10)) (list_all (λ b.
     differ : (b : ℕ) → b ≡ 10 → eqb b 10 ≡ false → ⊥
     differ b is other = let same : eqb b 10 ≡ true = ap (λ k. eqb k 10) is in cc
 
+-- a draft whose gates and outputs all stand
+whole_draft : (s : Sheet) → within_limits s.circuit.inputs s.gates s.outputs ≡ true → length s.circuit.gates ≡ s.gates → length s.circuit.outputs ≡ s.outputs → list_all (legal (lines s)) s.circuit.gates ≡ true → on_lines (lines s) s.circuit.outputs ≡ true → complete s ≡ true → Whole s
+whole_draft s limits gates outputs legal on_lines all = record {
+  begun = record {
+    limits = limits;
+    inputs_few = omega arith;
+    gates_few = omega (arith, gates);
+    outputs_few = omega (arith, outputs);
+    gates_legal = legal;
+    outputs_on_lines = on_lines;
+    inputs_first = λ some. refl;
+    gates_first = λ some. gates;
+  };
+  all_there = all;
+}
+
 -- a deck that is whole
 abbrev pulse_drawn : Sheet
 pulse_drawn = record { gates = 2; outputs = 1; circuit = pulse }
@@ -37,19 +53,7 @@ unfolding digits
 pulse_read = record {
   draft = pulse_drawn;
   deck = record {
-    whole = record {
-      begun = record {
-        limits = refl;
-        inputs_few = omega arith;
-        gates_few = omega arith;
-        outputs_few = omega arith;
-        gates_legal = refl;
-        outputs_on_lines = refl;
-        inputs_first = λ some. refl;
-        gates_first = λ some. refl;
-      };
-      all_there = refl;
-    };
+    whole = whole_draft pulse_drawn refl refl refl refl refl refl;
     rest = [];
     spelled = refl;
     count_is = refl;
@@ -100,19 +104,7 @@ free_told = (
     count = 47;
     draft = record { gates = 1; outputs = 1; circuit = alone };
     deck = record {
-      whole = record {
-        begun = record {
-          limits = refl;
-          inputs_few = omega arith;
-          gates_few = omega arith;
-          outputs_few = omega arith;
-          gates_legal = refl;
-          outputs_on_lines = refl;
-          inputs_first = λ some. refl;
-          gates_first = λ some. refl;
-        };
-        all_there = refl;
-      };
+      whole = whole_draft (record { gates = 1; outputs = 1; circuit = alone }) refl refl refl refl refl refl;
       rest = [];
       spelled = refl;
       count_is = refl;

@@ -1,9 +1,10 @@
 -- The rows of a deck and how they are spelled in columns.
-use Rattle.std.specs.Prelude.{ℕ, zero, suc, List, [], ◌∷◌, ◌++◌, map, codes}
+use Rattle.std.specs.Prelude.{ℕ, zero, suc, List, [], ◌∷◌, ◌++◌, map, codes, decimal}
 use Rattle.columns.specs.Spelling.{spelled}
 use Rattle.std.specs.List.{flat_map}
 use Rattle.netlist.specs.declared.kind.Kind.{Kind}
 use Rattle.netlist.specs.declared.kind.Kind.TheVariants.{Buf, Not, And, Or, Xor, Nand, Nor, Xnor}
+use Rattle.netlist.specs.GateRow.{gate_text}
 use Rattle.netlist.specs.Gates.{Gate}
 use Rattle.netlist.specs.Rows.{gate_of}
 use Rattle.deck.specs.declared.entry.Entry.{Entry}
@@ -42,6 +43,14 @@ text (input n) = 73 ∷ spelled 4 n
 text (gate n g) = 71 ∷ (spelled 4 n ++ (kind_text g.kind ++ (spelled 5 g.delay ++ flat_map (spelled 4) g.reads)))
 text (output n) = 79 ∷ spelled 4 n
 text end = 69 ∷ []
+
+-- what `{}` prints of a record
+abbrev pub message : Row → List ℕ
+message (header i g o) = codes "header, " ++ (decimal i ++ (codes " inputs, " ++ (decimal g ++ (codes " gates, " ++ (decimal o ++ codes " outputs")))))
+message (input n) = codes "input on line " ++ decimal n
+message (gate n g) = codes "gate on line " ++ (decimal n ++ (codes ": " ++ gate_text g))
+message (output n) = codes "output of line " ++ decimal n
+message end = codes "end"
 
 -- each row is ended by byte 10
 abbrev pub spell : List Row → List ℕ

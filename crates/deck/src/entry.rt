@@ -13,7 +13,13 @@ pub enum Entry {
     End,
 }
 
+// Written out, since its text is promised.
 impl fmt::Display for Entry {
+    ghost use Rattle.std.specs.Prelude.{Some};
+    ghost use Rattle.deck.specs.Rows.{row_of, message};
+
+    ghost output = { λ entry. Some (message (row_of entry)) };
+
     fn fmt<W: fmt::Write>(&self, f: &mut fmt::Formatter<W>) -> fmt::Result {
         match self {
             Entry::Header(

@@ -96,15 +96,11 @@ among (m ∷ ms) n =
 -- only gates read lines
 reads_gate : (c : Circuit) (n m : ℕ) → ReadsFrom (topology c) n m → IsGate (topology c) n
 reads_gate c n m read =
-    ⊎_elim (λ past. ⊎_elim (λ within. ⊎_elim (λ an_input. absurd (let range = input_range c n an_input in omega (arith, range.1, past))) (λ a_gate. a_gate) (a_line c n (omega (arith, past)) within)) (λ beyond. absurd (none (inr beyond))) (sides (cases_lt (lines c) n)))
+    ⊎_elim (λ past. ⊎_elim (λ beyond. absurd (none (inr beyond))) (λ within. ⊎_elim (λ an_input. absurd (let range = input_range c n an_input in omega (arith, range.1, past))) (λ a_gate. a_gate) (a_line c n (omega (arith, past)) within)) (cases_lt (lines c) n))
     (λ low. absurd (none (inl low))) (cases_lt c.inputs n)
   where
     none : (n ≤ c.inputs) ⊎ (lines c < n) → ⊥
     none out = let count = ap length (reads_nothing c n out) in omega (arith, read.1, count)
-
-    sides : (lines c < n) ⊎ (n ≤ lines c) → (n ≤ lines c) ⊎ (lines c < n)
-    sides (inl beyond) = inr beyond
-    sides (inr within) = inl within
 
 -- all keys are told again where those of a line and of its readers were set, and the others stay
 module _ {M : Type 0} (system : System M) (p : Panel) (is : Sure p) (a : Account M) (n : ℕ) (readers : List (List ℕ)) (all : AllRead p.circuit readers) (some : 0 < n) where

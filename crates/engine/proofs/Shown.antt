@@ -1,6 +1,8 @@
 -- Two accounts for which the same lines and records stand rest alike.
-use Rattle.std.proofs.Common.{◌≡◌, ℕ, suc, ◌+◌, ◌-◌, ◌<◌, ◌≤◌, ◌⊎◌, List, [], ◌∷◌, map, drop, get_or, refl, ap, sym, ◌∙◌, subst, ⊎_elim, arith, inr}
+use Rattle.std.proofs.Common.{◌≡◌, ℕ, suc, ◌+◌, ◌-◌, ◌<◌, ◌≤◌, List, ◌∷◌, map, drop, get_or, refl, ap, sym, ◌∙◌, subst, ⊎_elim, arith, inr}
 use Rattle.std.proofs.lemmas.Bool.{cases_lt}
+use Rattle.std.proofs.lemmas.List.{map-id}
+use Rattle.std.proofs.lemmas.Simd.{map-map}
 use Rattle.events.specs.declared.record.EventRecord.{EventRecord}
 use Rattle.netlist.specs.Walks.{reads}
 use Rattle.semantics.specs.Accounts.{Account, before, value, Stable, settled, goal, Overflows}
@@ -23,12 +25,10 @@ use Rattle.engine.proofs.Reading.{steady}
 
 -- what pairs of ticks and values tell
 firsts : {M : Type 0} (v : ℕ → M) (ts : List ℕ) → map (λ (p : ℕ × M). p.0) (map (λ t. (t, v t)) ts) ≡ ts
-firsts v [] = refl
-firsts v (t ∷ ts) = λ i. t ∷ firsts v ts i
+firsts {M = M} v ts = map-map (λ (p : ℕ × M). p.0) (λ t. (t, v t)) ts ∙ map-id ts
 
 seconds : {M : Type 0} (v : ℕ → M) (ts : List ℕ) → map (λ (p : ℕ × M). p.1) (map (λ t. (t, v t)) ts) ≡ map v ts
-seconds v [] = refl
-seconds v (t ∷ ts) = λ i. v t ∷ seconds v ts i
+seconds {M = M} v ts = map-map (λ (p : ℕ × M). p.1) (λ t. (t, v t)) ts
 
 module _ {M : Type 0} (s : Machine M) (a b : Account M) (n : ℕ) where
   -- with the same changes and the same values there, and at first, a line has the same values
@@ -38,10 +38,7 @@ module _ {M : Type 0} (s : Machine M) (a b : Account M) (n : ℕ) where
   same_before {from = from} (next {t = t} t_from t_to first changes rest) (next t_from' t_to' first' changes' rest') same values u reaches within =
       ⊎_elim (λ later. same_before rest rest' (ap (λ l. get_or l 0 (value s a n t)) values) (ap (drop 1) values) u later within)
       (λ sooner. steady s a n from u reaches (λ v v_from v_to. first v v_from (omega arith)) ∙ (same ∙ sym (steady s b n from u reaches (λ v v_from v_to. first' v v_from (omega arith)))))
-      (sides (cases_lt t u))
-    where
-      sides : (t < u) ⊎ (u ≤ t) → (suc t ≤ u) ⊎ (u ≤ t)
-      sides either = either
+      (cases_lt t u)
 
   module _ (filler : M) (to kept : ℕ) (records : List (ℕ × M)) (h : Tells s filler a n to kept records) (h' : Tells s filler b n to kept records) where
     shown_same : ◌≡◌ {A = List (ℕ × M)} ((a.trim, before s a n a.trim) ∷ map (λ t. (t, value s a n t)) h.ticks) ((b.trim, before s b n b.trim) ∷ map (λ t. (t, value s b n t)) h'.ticks)

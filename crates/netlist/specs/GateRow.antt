@@ -1,8 +1,8 @@
 -- What a row of the table of gates shows, and how it keeps the lines that its gate reads.
-use Rattle.std.specs.Prelude.{◌≡◌, ℕ, ◌-◌, ◌≤◌, Bool, false, List, ◌++◌, length, take, drop, replicate}
+use Rattle.std.specs.Prelude.{◌≡◌, ℕ, ◌-◌, ◌≤◌, Bool, false, List, ◌++◌, length, take, drop, replicate, flat_map, codes, decimal}
 use Rattle.std.proofs.lemmas.List.{take-append-drop, length-take-le}
 use Rattle.netlist.specs.declared.progress.Progress.{Progress}
-use Rattle.netlist.specs.Gates.{Gate}
+use Rattle.netlist.specs.Gates.{Gate, kind_name}
 use Rattle.netlist.specs.Walks.{no_gate}
 
 -- a gate, whether its line is marked as looped, and how far that line has come
@@ -22,6 +22,10 @@ drawn gate = record { gate = gate; looped = false; progress = at_start }
 -- a row that no gate has filled
 abbrev pub empty : MarkedGate
 empty = drawn no_gate
+
+-- what `{}` prints of a gate
+abbrev pub gate_text : Gate → List ℕ
+gate_text gate = kind_name gate.kind ++ (codes ", delay " ++ (decimal gate.delay ++ (codes ", reads" ++ flat_map (λ line. codes " " ++ decimal line) gate.reads)))
 
 -- so many lines stand in the first of four places, and 0 in the others
 pub record IsPadded (places : List ℕ) (count : ℕ) : Type 0 where

@@ -92,7 +92,13 @@ impl GateRow {
     }
 }
 
+// Written out, since its text is promised.
 impl fmt::Display for GateRow {
+    ghost use Rattle.std.specs.Prelude.{Some};
+    ghost use Rattle.netlist.specs.GateRow.{gate_text};
+
+    ghost output = { λ row. Some (gate_text row.gate) };
+
     fn fmt<W: fmt::Write>(&self, f: &mut fmt::Formatter<W>) -> fmt::Result {
         let GateRow { kind, delay, .. } = self;
         write!(f, "{kind}, delay {delay}, reads")?;

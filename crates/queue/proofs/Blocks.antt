@@ -1,46 +1,51 @@
 -- The lowest key of all is found by blocks, and a key that is set is one of its block's.
-use Rattle.std.proofs.Common.{◌≡◌, ℕ, zero, suc, ◌+◌, ◌-◌, ◌*◌, ◌/◌, ◌%◌, ◌<◌, ◌≤◌, min, ◌⊎◌, List, [], ◌∷◌, length, get_or, set, take, drop, Some, refl, ap, sym, ◌∙◌, inl, inr, ⊎_elim, arith}
-use Rattle.std.specs.Prelude.{fold}
+use Rattle.std.proofs.Common.{◌≡◌, ℕ, ◌+◌, ◌-◌, ◌*◌, ◌/◌, ◌%◌, ◌<◌, ◌≤◌, min, ◌⊎◌, List, [], ◌∷◌, ◌++◌, length, get_or, set, take, drop, Some, refl, ap, sym, ◌∙◌, subst, inl, inr, ⊎_elim, arith}
 use Rattle.std.proofs.Math.Nat.{div-add-mod, mod-lt}
+use Rattle.std.proofs.Math.Seq.{get_or-append_seam}
 use Rattle.std.proofs.lemmas.Bool.{cases_eq, cases_lt}
 use Rattle.std.proofs.lemmas.Grind.{get_or-set_at}
-use Rattle.std.proofs.lemmas.List.{get_or-take, get_or-drop, get_or-set_other, length-take-le, length-drop, drop-set-lt, drop-set-add, take-set-le}
-use Rattle.queue.specs.Keys.{no_key, lowest, PlaceOf, block, LowestOfBlocks, First}
+use Rattle.std.proofs.lemmas.List.{get_or-take, get_or-drop, get_or-set_other, get_or_append_left, length-append, length-take-le, length-drop, drop-set-lt, drop-set-add, take-set-le}
+use Rattle.queue.specs.Blocks.{IsLowest, PlaceOf, block, LowestOfBlocks}
+use Rattle.queue.specs.Keys.{no_key, First}
 
-fold_first : (t : ℕ) (ts : List ℕ) → fold min t ts ≤ t
-fold_first t [] = omega arith
-fold_first t (u ∷ us) = let below = fold_first (min t u) us in omega arith
+-- no key is none
+pub lowest_of_none : IsLowest [] no_key
+lowest_of_none = record { bounds = λ i within. absurd (omega arith); reached = λ some. absurd (some refl) }
 
-fold_each : (t : ℕ) (ts : List ℕ) (i : ℕ) → i < length ts → fold min t ts ≤ get_or ts i 0
-fold_each t [] i within = absurd (omega arith)
-fold_each t (u ∷ us) zero within = let below = fold_first (min t u) us in omega arith
-fold_each t (u ∷ us) (suc i) within = fold_each (min t u) us i (omega arith)
-
--- a place at which a list has a number
-record Has (ts : List ℕ) (t : ℕ) : Type 0 where
-  at : ℕ
-  within : at < length ts
-  is : get_or ts at 0 ≡ t
-
-fold_reached : (t : ℕ) (ts : List ℕ) → (fold min t ts ≡ t) ⊎ Has ts (fold min t ts)
-fold_reached t [] = inl refl
-fold_reached t (u ∷ us) =
-    ⊎_elim (λ kept. ⊎_elim (λ first. inl (kept ∙ first)) (λ second. inr (record { at = 0; within = omega arith; is = sym (kept ∙ second) })) (lesser t u))
-    (λ found. inr (record { at = suc found.at; within = omega (arith, found.within); is = found.is })) (fold_reached (min t u) us)
+-- one key more
+pub lowest_more : (keys : List ℕ) (key low : ℕ) → IsLowest keys low → IsLowest (keys ++ (key ∷ [])) (min low key)
+lowest_more keys key low h = record { bounds = bounds; reached = ⊎_elim kept other (lesser low key) }
   where
     lesser : (a b : ℕ) → (min a b ≡ a) ⊎ (min a b ≡ b)
     lesser a b = grind arith
 
--- the lowest key is one of them, if it is a key
-reached : (keys : List ℕ) → lowest keys < no_key → Has keys (lowest keys)
-reached keys some = ⊎_elim (λ none. absurd (omega arith)) (λ found. found) (fold_reached no_key keys)
+    all : List ℕ
+    all = keys ++ (key ∷ [])
 
-pub no_greater : (keys : List ℕ) → lowest keys ≤ no_key
-no_greater keys = fold_first no_key keys
+    size : length all ≡ length keys + 1
+    size = length-append keys (key ∷ [])
 
--- it has a place
-pub has_place : (keys : List ℕ) → lowest keys < no_key → ((i : ℕ) → i < length keys → get_or keys i 0 ≡ lowest keys → ⊥) → ⊥
-has_place keys some none = let found = reached keys some in none found.at found.within found.is
+    before : (i : ℕ) → i < length keys → get_or all i 0 ≡ get_or keys i 0
+    before i within = get_or_append_left keys (key ∷ []) 0 i within
+
+    last : get_or all (length keys) 0 ≡ key
+    last = get_or-append_seam keys key [] 0
+
+    bounds : (i : ℕ) → i < length all → min low key ≤ get_or all i 0
+    bounds i within =
+        ⊎_elim (λ earlier. let old = h.bounds i earlier in let same = before i earlier in omega (arith, old, same))
+        (λ later. let same = ap (λ k. get_or all k 0) (at_end i within later) in omega (arith, same, last)) (cases_lt i (length keys))
+      where
+        at_end : (i : ℕ) → i < length all → length keys ≤ i → i ≡ length keys
+        at_end i within later = omega (arith, size)
+
+    kept : min low key ≡ low → (min low key ≡ no_key → ⊥) → (i : ℕ) × (i < length all) × (get_or all i 0 ≡ min low key)
+    kept is some =
+        let old = h.reached (λ none. some (is ∙ none)) in
+        (old.0, omega (arith, old.1, size), before old.0 old.1 ∙ (old.2 ∙ sym is))
+
+    other : min low key ≡ key → (min low key ≡ no_key → ⊥) → (i : ℕ) × (i < length all) × (get_or all i 0 ≡ min low key)
+    other is some = (length keys, omega (arith, size), last ∙ sym is)
 
 -- each key is one of a block's
 block_key : (keys : List ℕ) (b i : ℕ) → i < 32 → get_or (block keys b) i 0 ≡ get_or keys (32 * b + i) 0
@@ -49,57 +54,54 @@ block_key keys b i within = get_or-take 32 (drop (32 * b) keys) i 0 within ∙ g
 block_length : (keys : List ℕ) (b : ℕ) → length keys ≡ 1024 → b < 32 → length (block keys b) ≡ 32
 block_length keys b all within = length-take-le 32 (drop (32 * b) keys) (omega (arith, length-drop (32 * b) keys))
 
-module _ (keys found : List ℕ) (all : length keys ≡ 1024) (blocks : length found ≡ 32) (right : LowestOfBlocks keys found) where
-  least : ℕ
-  least = lowest found
-
+module _ (keys found : List ℕ) (all : length keys ≡ 1024) (blocks : length found ≡ 32) (right : LowestOfBlocks keys found) (least : ℕ) (lowest : IsLowest found least) where
   -- of the block of a place, the lowest key is no greater than the key there
   of_block : (b i : ℕ) → b < 32 → i < 32 → get_or found b 0 ≤ get_or keys (32 * b + i) 0
   of_block b i within inside =
-      let each = fold_each no_key (block keys b) i (omega (arith, block_length keys b all within)) in
-      omega (arith, right b within, block_key keys b i inside, each)
+      let each = (right b within).bounds i (omega (arith, block_length keys b all within)) in
+      omega (arith, block_key keys b i inside, each)
 
   -- and the lowest of all is no greater than either
-  pub each : (i : ℕ) → i < length keys → lowest found ≤ get_or keys i 0
+  pub each : (i : ℕ) → i < length keys → least ≤ get_or keys i 0
   each i within =
       let cut = div-add-mod i 32 in
       let inside : i % 32 < 32 = mod-lt i (omega arith) in
       let b : i / 32 < 32 = omega arith in
       let here = of_block (i / 32) (i % 32) b inside in
-      let low = fold_each no_key found (i / 32) (omega (arith, b)) in
+      let low = lowest.bounds (i / 32) (omega (arith, b)) in
       omega (arith, ap (λ k. get_or keys k 0) cut, here, low)
 
-  module _ (b i : ℕ) (some : lowest found < no_key) (in_blocks : PlaceOf found (lowest found) (Some b)) (in_block : PlaceOf (block keys b) (lowest found) (Some i)) where
+  module _ (b i : ℕ) (some : least < no_key) (in_blocks : PlaceOf found least (Some b)) (in_block : PlaceOf (block keys b) least (Some i)) where
     b_within : b < 32
     b_within = omega (arith, in_blocks.0)
 
     i_within : i < 32
     i_within = omega (arith, in_block.0, block_length keys b all b_within)
 
-    is : get_or keys (32 * b + i) 0 ≡ lowest found
+    is : get_or keys (32 * b + i) 0 ≡ least
     is = sym (block_key keys b i i_within) ∙ in_block.1
 
     -- keys before are greater
-    before : (k : ℕ) → k < 32 * b + i → lowest found < get_or keys k 0
+    before : (k : ℕ) → k < 32 * b + i → least < get_or keys k 0
     before k less =
         let cut = div-add-mod k 32 in
         let inside : k % 32 < 32 = mod-lt k (omega arith) in
         let within : k / 32 < 32 = omega (arith, less, b_within, i_within) in
         ⊎_elim (λ same. same_block k (k / 32) (k % 32) same inside cut less) (λ other. other_block k (k / 32) (k % 32) (omega (arith, other, cut, less, inside, i_within)) within inside cut) (cases_eq (k / 32) b)
       where
-        same_block : (k c j : ℕ) → c ≡ b → j < 32 → 32 * c + j ≡ k → k < 32 * b + i → lowest found < get_or keys k 0
+        same_block : (k c j : ℕ) → c ≡ b → j < 32 → 32 * c + j ≡ k → k < 32 * b + i → least < get_or keys k 0
         same_block k c j same inside cut less =
             let place : k ≡ 32 * b + j = omega arith in
             let key = block_key keys b j inside ∙ ap (λ p. get_or keys p 0) (sym place) in
             let low = each k (omega (arith, b_within, i_within)) in
-            ⊎_elim (λ equal. absurd (in_block.2 j (omega arith) (key ∙ equal))) (λ differs. omega (arith, differs, low)) (cases_eq (get_or keys k 0) (lowest found))
+            ⊎_elim (λ equal. absurd (in_block.2 j (omega arith) (key ∙ equal))) (λ differs. omega (arith, differs, low)) (cases_eq (get_or keys k 0) (least))
 
-        other_block : (k c j : ℕ) → c < b → c < 32 → j < 32 → 32 * c + j ≡ k → lowest found < get_or keys k 0
+        other_block : (k c j : ℕ) → c < b → c < 32 → j < 32 → 32 * c + j ≡ k → least < get_or keys k 0
         other_block k c j earlier within inside cut =
-            let low = fold_each no_key found c (omega (arith, within)) in
+            let low = lowest.bounds c (omega (arith, within)) in
             let here = of_block c j within inside in
             let place = ap (λ p. get_or keys p 0) cut in
-            ⊎_elim (λ equal. absurd (in_blocks.2 c earlier equal)) (λ differs. omega (arith, differs, low, here, place)) (cases_eq (get_or found c 0) (lowest found))
+            ⊎_elim (λ equal. absurd (in_blocks.2 c earlier equal)) (λ differs. omega (arith, differs, low, here, place)) (cases_eq (get_or found c 0) (least))
 
     pub first : First keys (Some (32 * b + i))
     first = (omega (arith, b_within, i_within), omega (arith, is, some), λ k inside. omega (arith, is, each k inside), λ k less. omega (arith, is, before k less))
@@ -124,11 +126,8 @@ other_block keys place key b other =
     sides (inl less) = inl (omega (arith, cut, rest))
     sides (inr more) = inr (omega (arith, cut, rest, other))
 
-pub set_right : (keys found : List ℕ) (place key : ℕ) → length found ≡ 32 → LowestOfBlocks keys found → LowestOfBlocks (set keys place key) (set found (place / 32) (lowest (block (set keys place key) (place / 32))))
-set_right keys found place key blocks right b inside =
-    ⊎_elim (λ same. get_or-set_at found (place / 32) b low 0 same (omega (arith, inside, same)) ∙ ap (λ c. lowest (block (set keys place key) c)) (sym same))
-    (λ other. get_or-set_other found (place / 32) b low 0 other ∙ (right b inside ∙ ap lowest (sym (other_block keys place key b other))))
+pub set_right : (keys found : List ℕ) (place key low : ℕ) → length found ≡ 32 → LowestOfBlocks keys found → IsLowest (block (set keys place key) (place / 32)) low → LowestOfBlocks (set keys place key) (set found (place / 32) low)
+set_right keys found place key low blocks right lowest b inside =
+    ⊎_elim (λ same. subst (IsLowest (block (set keys place key) b)) (sym (get_or-set_at found (place / 32) b low 0 same (omega (arith, inside, same)))) (subst (λ c. IsLowest (block (set keys place key) c) low) (sym same) lowest))
+    (λ other. subst (IsLowest (block (set keys place key) b)) (sym (get_or-set_other found (place / 32) b low 0 other)) (subst (λ ks. IsLowest ks (get_or found b 0)) (sym (other_block keys place key b other)) (right b inside)))
     (cases_eq b (place / 32))
-  where
-    low : ℕ
-    low = lowest (block (set keys place key) (place / 32))

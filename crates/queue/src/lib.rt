@@ -2,7 +2,8 @@
 #![tactic(auto)]
 
 ghost use Rattle.std.specs.Prelude.{◌≡◌, ◌<◌, slice_set, IfSome};
-ghost use Rattle.queue.specs.Keys.{lowest, block as keys_in, PlaceOf, First};
+ghost use Rattle.queue.specs.Blocks.{IsLowest, PlaceOf, block as keys_in};
+ghost use Rattle.queue.specs.Keys.{First};
 
 use std::marker::Model;
 
@@ -21,7 +22,7 @@ pub struct Queue {
 
 impl Model for Queue {
     ghost use Rattle.std.specs.Prelude.{◌≡◌, ℕ, List, length};
-    ghost use Rattle.queue.specs.Keys.{LowestOfBlocks};
+    ghost use Rattle.queue.specs.Blocks.{LowestOfBlocks};
 
     ghost Value = { List ℕ };
 
@@ -32,7 +33,7 @@ impl Model for Queue {
 
 // The lowest of some keys.
 fn lowest(keys: &[u32]) -> u32
-    ensures { result ≡ lowest keys.now }
+    ensures { IsLowest keys.now result }
 {
     let mut lowest = NO_KEY;
     for key in keys {

@@ -1,5 +1,5 @@
 -- The records of a stimulus and how they are spelled in columns.
-use Rattle.std.specs.Prelude.{ℕ, ◌<◌, ◌≤◌, ◌^◌, List, [], ◌∷◌, ◌++◌}
+use Rattle.std.specs.Prelude.{ℕ, ◌<◌, ◌≤◌, ◌^◌, List, [], ◌∷◌, ◌++◌, codes, decimal}
 use Rattle.columns.specs.Spelling.{spelled}
 use Rattle.values.specs.Knowledge.{letter}
 use Rattle.stimulus.specs.declared.entry.Entry.{Entry}
@@ -10,6 +10,12 @@ abbrev pub text : Entry → List ℕ
 text (Feed line tick value) = 70 ∷ (spelled 4 line ++ (spelled 10 tick ++ (32 ∷ letter value)))
 text (Hold line tick) = 72 ∷ (spelled 4 line ++ spelled 10 tick)
 text End = 69 ∷ []
+
+-- what `{}` prints of a record
+abbrev pub message : Entry → List ℕ
+message (Feed line tick value) = codes "feed line " ++ (decimal line ++ (codes " at " ++ (decimal tick ++ (codes " with " ++ letter value))))
+message (Hold line tick) = codes "hold line " ++ (decimal line ++ (codes " up to " ++ decimal tick))
+message End = codes "end"
 
 -- each record is ended by byte 10
 abbrev pub spell : List Entry → List ℕ

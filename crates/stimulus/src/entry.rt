@@ -17,7 +17,13 @@ pub enum Entry {
     End,
 }
 
+// Written out, since its text is promised.
 impl fmt::Display for Entry {
+    ghost use Rattle.std.specs.Prelude.{Some};
+    ghost use Rattle.stimulus.specs.Rows.{message};
+
+    ghost output = { λ entry. Some (message entry) };
+
     fn fmt<W: fmt::Write>(&self, f: &mut fmt::Formatter<W>) -> fmt::Result {
         match self {
             Entry::Feed { line, tick, value } => write!(

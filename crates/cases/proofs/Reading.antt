@@ -12,7 +12,7 @@ use Rattle.columns.proofs.Decimals.{no_number}
 use Rattle.columns.proofs.Spelled.{after_blanks_same, decimal_no_blank, digit_decimal}
 use Rattle.deck.specs.Closing.{Refused, ClosedOutcome}
 use Rattle.deck.specs.Faults.{Told}
-use Rattle.deck.specs.Outcomes.{FirstFault, Fails, Unended, used, fault}
+use Rattle.deck.specs.Outcomes.{FirstFault, Fails, FailsTest, Unended, used, fault}
 use Rattle.deck.specs.Progress.{Begun, Whole, going, rows_begun}
 use Rattle.deck.specs.Rows.{spell}
 use Rattle.deck.specs.Tests.{Shows, figure, range}
@@ -158,7 +158,7 @@ no_figure one other stop none n shown =
 field_told : (one other : ℕ) → Unended (73 ∷ 32 ∷ 32 ∷ one ∷ other ∷ []) → (one ≡ 32 → ⊥) → ((n : ℕ) → n < 2 ^ 64 → one ∷ other ∷ [] ≡ decimal n → ⊥) → ClosedOutcome (ended (codes "N   1   1   1" ∷ (73 ∷ 32 ∷ 32 ∷ one ∷ other ∷ []) ∷ [])) (fault (record { number = 4; layer = 70; at = 2; column = 2 })) nothing
 unfolding digits
 field_told one other whole stop none = (
-  Refused.unread (told_of 0 (omega arith) (73 ∷ 32 ∷ 32 ∷ one ∷ other ∷ 10 ∷ []) _ (Fails.failed (73 ∷ 32 ∷ 32 ∷ one ∷ other ∷ []) [] (figure 2 4) refl whole (inr ((32 ∷ 32 ∷ one ∷ other ∷ [], refl), inr (refl, inl (refl, λ shown. no_figure one other stop none shown.0 shown.1)))) refl)),
+  Refused.unread (told_of 0 (omega arith) (73 ∷ 32 ∷ 32 ∷ one ∷ other ∷ 10 ∷ []) _ (FailsTest.failed (73 ∷ 32 ∷ 32 ∷ one ∷ other ∷ []) [] (figure 2 4) refl whole (inr ((32 ∷ 32 ∷ one ∷ other ∷ [], refl), inr (refl, inl (refl, λ shown. no_figure one other stop none shown.0 shown.1)))) refl)),
   refl,
 )
 
@@ -176,7 +176,7 @@ no_delay n shown least = omega (arith, shows_one (codes "G   2NOT     0   1") 10
 pub no_delay_told : ClosedOutcome (ended (codes "N   1   1   1" ∷ codes "I   1" ∷ codes "G   2NOT     0   1" ∷ [])) (fault (record { number = 5; layer = 82; at = 3; column = 10 })) nothing
 unfolding digits
 no_delay_told = (
-  Refused.unread (told_of 1 (omega arith) (codes "G   2NOT     0   1" ++ (10 ∷ [])) _ (Fails.failed (codes "G   2NOT     0   1") [] (range 10 5 1 65535) refl (unended (codes "G   2NOT     0   1") refl)
+  Refused.unread (told_of 1 (omega arith) (codes "G   2NOT     0   1" ++ (10 ∷ [])) _ (FailsTest.failed (codes "G   2NOT     0   1") [] (range 10 5 1 65535) refl (unended (codes "G   2NOT     0   1") refl)
       (inr ((codes "   2NOT     0   1", refl), inr (refl, inr ((2, line), inr (line, inr ((Kind.Not, refl), inr ((0, delay), inl (refl, λ shown. no_delay shown.0 shown.1 shown.2))))))))
       refl)),
   refl,

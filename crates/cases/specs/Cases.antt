@@ -1,11 +1,12 @@
 -- Worked cases: what is asked, and what has to come of it.
-use Rattle.std.specs.Prelude.{ℕ, ◌-◌, ◌/◌, Bool, List, [], ◌∷◌, ◌++◌, length, Ok, Err, Result}
+use Rattle.std.specs.Prelude.{ℕ, ◌-◌, ◌/◌, Bool, List, [], ◌∷◌, length, Ok, Err, Result}
 use Rattle.netlist.specs.Gates.{Circuit}
 use Rattle.values.specs.Knowledge.{three_valued}
 use Rattle.values.specs.Systems.{System, two_valued}
 use Rattle.values.specs.declared.ternary.Ternary.{Ternary}
 use Rattle.deck.specs.Closing.{ClosedOutcome}
 use Rattle.deck.specs.Outcomes.{Answer}
+use Rattle.deck.specs.Rows.{ended_each}
 use Rattle.semantics.specs.Circuits.{lines}
 use Rattle.semantics.specs.CircuitMachine.{machine}
 use Rattle.semantics.specs.Moves.{made}
@@ -33,8 +34,7 @@ Worked s job =
 
 -- the bytes of records, each ended by byte 10
 abbrev pub ended : List (List ℕ) → List ℕ
-ended [] = []
-ended (r ∷ rs) = r ++ (10 ∷ ended rs)
+ended records = ended_each (λ r. r) records
 
 -- A session in two values or in three; or records that are read and closed, with the bytes used and the netlist, or the
 -- first fault and no netlist.

@@ -3,7 +3,7 @@ use Rattle.std.proofs.Common.{◌≡◌, ℕ, zero, suc, ◌<◌, Option, None, 
 use Rattle.std.specs.List.{AllWithin, HoldsAt}
 use Rattle.std.proofs.Math.Seq.{split_at, take-length}
 use Rattle.deck.specs.Outcomes.{Unended}
-use Rattle.deck.specs.Rows.{Row, text, spell}
+use Rattle.deck.specs.Rows.{ended_each}
 
 -- a record, its ending and what follows
 pub at_ending : (bytes : List ℕ) (n : ℕ) → n < length bytes → get_or bytes n 0 ≡ 10 → bytes ≡ take n bytes ++ (10 ∷ drop (suc n) bytes)
@@ -20,8 +20,9 @@ pub first_ending : (bytes : List ℕ) (place : Option ℕ) → MatchOption place
 first_ending bytes None all = subst Unended (take-length bytes) (unended bytes (length bytes) all)
 first_ending bytes (Some n) (within, here, before) = (within, here 0, unended bytes n before)
 
--- one row more at the end
-pub spell_more : (rs : List Row) (r : Row) (rest : List ℕ) → spell (rs ++ (r ∷ [])) ++ rest ≡ spell rs ++ (text r ++ (10 ∷ rest))
-spell_more [] r rest = append_assoc (text r) (10 ∷ []) rest
-spell_more (q ∷ rs) r rest =
-    append_assoc (text q) (10 ∷ spell (rs ++ (r ∷ []))) rest ∙ ap (λ l. text q ++ (10 ∷ l)) (spell_more rs r rest) ∙ sym (append_assoc (text q) (10 ∷ spell rs) (text r ++ (10 ∷ rest)))
+-- one text more at the end
+pub ended_more : {A : Type 0} (text : A → List ℕ) (xs : List A) (x : A) (rest : List ℕ) → ended_each text (xs ++ (x ∷ [])) ++ rest ≡ ended_each text xs ++ (text x ++ (10 ∷ rest))
+ended_more text [] x rest = append_assoc (text x) (10 ∷ []) rest
+ended_more text (y ∷ ys) x rest =
+    append_assoc (text y) (10 ∷ ended_each text (ys ++ (x ∷ []))) rest
+    ∙ ap (λ l. text y ++ (10 ∷ l)) (ended_more text ys x rest) ∙ sym (append_assoc (text y) (10 ∷ ended_each text ys) (text x ++ (10 ∷ rest)))

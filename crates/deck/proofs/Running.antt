@@ -12,7 +12,7 @@ use Rattle.deck.specs.declared.entry.Taken.{Taken}
 use Rattle.deck.specs.declared.phase.Phase.{Phase}
 use Rattle.deck.specs.declared.phase.Phase.TheVariants.{Header, Inputs, Gates, Outputs, End, Done}
 use Rattle.deck.specs.declared.reader.DeckReader.{DeckReader}
-use Rattle.deck.proofs.Bytes.{spell_more}
+use Rattle.deck.proofs.Bytes.{ended_more}
 use Rattle.deck.proofs.Readers.{reader_legal}
 
 abbrev pub Going : DeckReader → List ℕ → ℕ → Type 0
@@ -21,7 +21,7 @@ Going d bytes used =
 
 length_more : (rs : List Row) (r : Row) → length (spell (rs ++ (r ∷ []))) ≡ length (spell rs) + suc (length (text r))
 length_more rs r =
-    let same = ap length (sym (append-nil (spell (rs ++ (r ∷ [])))) ∙ spell_more rs r []) in
+    let same = ap length (sym (append-nil (spell (rs ++ (r ∷ [])))) ∙ ended_more text rs r []) in
     let outer = length-append (spell rs) (text r ++ (10 ∷ [])) in
     let inner = length-append (text r) (10 ∷ []) in
     omega arith
@@ -31,7 +31,7 @@ goes_on d t bytes used k so_far took_on =
     let took = subst (λ l. TookFrom d t l k) (take_rest bytes used) took_on in
     let rs = rows (progress_of d) in
     let r = row_of k.entry in
-    let spelled : bytes ≡ spell (rs ++ (r ∷ [])) ++ took.rest = so_far.2 ∙ ap (λ l. spell rs ++ l) took.spelling ∙ sym (spell_more rs r took.rest) in
+    let spelled : bytes ≡ spell (rs ++ (r ∷ [])) ++ took.rest = so_far.2 ∙ ap (λ l. spell rs ++ l) took.spelling ∙ sym (ended_more text rs r took.rest) in
     let long = length_more rs r in
     let used-is : used + k.bytes ≡ length (spell (rs ++ (r ∷ []))) = omega (arith, so_far.1, took.count) in
     let left : drop (used + k.bytes) bytes ≡ took.rest = ap (drop (used + k.bytes)) spelled ∙ drop_at (spell (rs ++ (r ∷ []))) took.rest _ (sym used-is) in

@@ -4,8 +4,10 @@ use Rattle.netlist.specs.Drafts.{Sheet}
 use Rattle.deck.specs.Faults.{Told}
 use Rattle.deck.specs.Progress.{Progress, blank, over, rows, Legal, expected, deck_text}
 use Rattle.deck.specs.Rows.{Row, text, spell}
-use Rattle.deck.specs.Tests.{tests, FirstFailed, fault_of}
-use Rattle.deck.specs.Outcomes.{Fails, cut, failed, FirstFault, Deck, Answer, used, fault, Outcome}
+use Rattle.std.specs.List.{AllByRecursion}
+use Rattle.deck.specs.Tests.{Test, Passes, FirstFailed, fault_of}
+use Rattle.deck.specs.Outcomes.FailsTest.{cut, failed}
+use Rattle.deck.specs.Outcomes.{Unended, FailsTest, Fails, FirstFault, Deck, Answer, used, fault, Outcome}
 use Rattle.deck.proofs.Following.{Follows, nothing_follows, after, Leads, legal_leads}
 use Rattle.deck.proofs.Texts.{text_unended, text_one}
 use Rattle.deck.proofs.Passing.{none_failed, first_failed_one, follows_passes}
@@ -25,21 +27,26 @@ compare p q t (r ∷ rs) (s ∷ ss) x y (f, here) (g, there) same =
     let one = text_one _ r s f g cuts.0 in
     compare (after p r) q t rs ss x y here (subst (λ z. Leads (after p z) ss t) (sym one) there) cuts.1
 
--- the same record fails with one fault
-pub fails_one : (p : Progress) (at : ℕ) (bytes : List ℕ) (f g : Told) → Fails p at bytes f → Fails p at bytes g → f ≡ g
-fails_one p at bytes f g (cut u is) (cut v is') = is ∙ sym is'
-fails_one p at bytes f g (cut u is) (failed r x t e v first is') = absurd (ended r x (rw e at u))
-fails_one p at bytes f g (failed r x t e v first is) (cut u is') = absurd (ended r x (rw e at u))
-fails_one p at bytes f g (failed r x t e u first is) (failed q y w e' v first' is') =
-    let same = (cut_one r q x y u v (sym e ∙ e')).0 in
-    is ∙ ap (fault_of at) (first_failed_one q _ t w (subst (λ z. FirstFailed z (tests (expected p) (length z)) t) same first) first') ∙ sym is'
+module _ (tests_of : List ℕ → List Test) (at : ℕ) where
+  -- the same record fails with one fault
+  pub fails_one : (bytes : List ℕ) (f g : Told) → FailsTest tests_of at bytes f → FailsTest tests_of at bytes g → f ≡ g
+  fails_one bytes f g (cut u is) (cut v is') = is ∙ sym is'
+  fails_one bytes f g (cut u is) (failed r x t e v first is') = absurd (ended r x (rw e at u))
+  fails_one bytes f g (failed r x t e v first is) (cut u is') = absurd (ended r x (rw e at u))
+  fails_one bytes f g (failed r x t e u first is) (failed q y w e' v first' is') =
+      let same = (cut_one r q x y u v (sym e ∙ e')).0 in
+      is ∙ ap (fault_of at) (first_failed_one q _ t w (subst (λ z. FirstFailed z (tests_of z) t) same first) first') ∙ sym is'
+
+  -- a record that passes all its tests does not fail
+  pub passes_all : (r x : List ℕ) (f : Told) → Unended r → AllByRecursion (Passes r) (tests_of r) → FailsTest tests_of at (r ++ (10 ∷ x)) f → ⊥
+  passes_all r x f whole passes (cut u is) = ended r x u
+  passes_all r x f whole passes (failed q y t e u first is) =
+      let same = (cut_one r q x y whole u e).0 in
+      none_failed r _ t passes (subst (λ z. FirstFailed z (tests_of z) t) (sym same) first)
 
 -- a record that fails is not the text of a row that follows
 not_ahead : (p : Progress) (at : ℕ) (r : Row) (x : List ℕ) (f : Told) → Follows (expected p) r → Fails p at (text r ++ (10 ∷ x)) f → ⊥
-not_ahead p at r x f follows (cut u is) = ended (text r) x u
-not_ahead p at r x f follows (failed q y t e u first is) =
-    let same = (cut_one (text r) q x y (text_unended _ r follows) u e).0 in
-    none_failed (text r) _ t (follows_passes _ r follows) (subst (λ z. FirstFailed z (tests (expected p) (length z)) t) (sym same) first)
+not_ahead p at r x f follows = passes_all _ at (text r) x f (text_unended _ r follows) (follows_passes _ r follows)
 
 -- what p has is read, and the rest does not go on with a row that follows
 record Stop (bytes : List ℕ) (p : Progress) (rest : List ℕ) : Type 0 where

@@ -12,10 +12,14 @@ use Rattle.deck.specs.declared.fault.Fault.{Fault}
 abbrev pub Unended : List ℕ → Type 0
 Unended bytes = AllByRecursion (λ b. b ≢ 10) bytes
 
--- the record that the bytes begin with is cut, or fails a test
-pub data Fails (p : Progress) (at : ℕ) (bytes : List ℕ) (f : Told) : Type 0 where
-  cut : Unended bytes → f ≡ record { number = 1; layer = 82; at = at; column = 1 } → Fails p at bytes f
-  failed : (r after : List ℕ) (t : Test) → bytes ≡ r ++ (10 ∷ after) → Unended r → FirstFailed r (tests (expected p) (length r)) t → f ≡ fault_of at t → Fails p at bytes f
+-- the record that the bytes begin with is cut, or fails one of its tests
+pub data FailsTest (tests_of : List ℕ → List Test) (at : ℕ) (bytes : List ℕ) (f : Told) : Type 0 where
+  cut : Unended bytes → f ≡ record { number = 1; layer = 82; at = at; column = 1 } → FailsTest tests_of at bytes f
+  failed : (r after : List ℕ) (t : Test) → bytes ≡ r ++ (10 ∷ after) → Unended r → FirstFailed r (tests_of r) t → f ≡ fault_of at t → FailsTest tests_of at bytes f
+
+-- as the tests are of the row that is expected
+abbrev pub Fails : Progress → ℕ → List ℕ → Told → Type 0
+Fails p at bytes f = FailsTest (λ r. tests (expected p) (length r)) at bytes f
 
 -- all records before that of the fault are as they should be, and that one fails; a fault is found before the end row
 pub record FirstFault (bytes : List ℕ) (f : Told) : Type 0 where

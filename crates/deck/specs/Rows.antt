@@ -52,10 +52,13 @@ message (gate n g) = codes "gate on line " ++ (decimal n ++ (codes ": " ++ gate_
 message (output n) = codes "output of line " ++ decimal n
 message end = codes "end"
 
--- each row is ended by byte 10
+-- texts, each ended by byte 10
+abbrev pub ended_each : {A : Type 0} → (A → List ℕ) → List A → List ℕ
+ended_each text [] = []
+ended_each text (x ∷ xs) = text x ++ (10 ∷ ended_each text xs)
+
 abbrev pub spell : List Row → List ℕ
-spell [] = []
-spell (r ∷ rs) = text r ++ (10 ∷ spell rs)
+spell rows = ended_each text rows
 
 -- one row for each input, in line order
 abbrev pub input_rows : ℕ → List Row

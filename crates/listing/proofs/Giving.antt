@@ -1,5 +1,5 @@
 -- A stimulus is given record by record.
-use Rattle.std.proofs.Common.{◌≡◌, ℕ, suc, ◌+◌, List, [], ◌∷◌, ◌++◌, length, Ok, Err, Result, sym, refl, ap, ◌∙◌, subst, append_assoc, append-nil, length-append, arith}
+use Rattle.std.proofs.Common.{◌≡◌, ℕ, suc, ◌+◌, List, [], ◌∷◌, ◌++◌, length, Ok, Err, Result, sym, refl, ap, ◌∙◌, subst, append-nil, length-append, arith}
 use Rattle.deck.specs.Faults.{Told, told}
 use Rattle.deck.specs.declared.fault.Fault.{Fault}
 use Rattle.engine.specs.Answers.{Feeding, Holding}
@@ -12,6 +12,7 @@ use Rattle.semantics.specs.Circuits.{lines}
 use Rattle.semantics.specs.Machines.{Machine}
 use Rattle.stimulus.specs.Readers.{Place, Took, phase_after}
 use Rattle.stimulus.specs.Rows.{text, spell, Legal}
+use Rattle.deck.proofs.Bytes.{ended_more}
 use Rattle.stimulus.specs.Tests.{Over, Fails}
 use Rattle.stimulus.specs.declared.entry.Entry.{Entry}
 use Rattle.stimulus.specs.declared.entry.Entry.TheVariants.{Feed, Hold, End}
@@ -22,12 +23,6 @@ use Rattle.values.specs.Knowledge.{three_valued}
 use Rattle.values.specs.declared.ternary.Ternary.{Ternary}
 use Rattle.listing.specs.Given.{Gives, Given, Whole, Stops, FirstFault}
 use Rattle.listing.specs.Listers.{machine_in, StandsFor}
-
--- one record more at the end
-pub spell_more : (es : List Entry) (e : Entry) (rest : List ℕ) → spell (es ++ (e ∷ [])) ++ rest ≡ spell es ++ (text e ++ (10 ∷ rest))
-spell_more [] e rest = append_assoc (text e) (10 ∷ []) rest
-spell_more (d ∷ es) e rest =
-    append_assoc (text d) (10 ∷ spell (es ++ (e ∷ []))) rest ∙ ap (λ l. text d ++ (10 ∷ l)) (spell_more es e rest) ∙ sym (append_assoc (text d) (10 ∷ spell es) (text e ++ (10 ∷ rest)))
 
 module _ (s : Machine Ternary) where
   pub given_more : (b d : Account Ternary) (e : Entry) → Gives s b e (Ok tt) d → {a : Account Ternary} {es : List Entry} → Given s b es a → Given s d (es ++ (e ∷ [])) a
@@ -93,7 +88,7 @@ module _ (start : Session Ternary) (stimulus : List ℕ) (first : ℕ) where
       number_before = subst (λ x. p.at ≡ first + length (taken x es)) took.in_order under.number
 
       spelled_on : stimulus ≡ spell (es ++ (t.entry ∷ [])) ++ q.rest
-      spelled_on = spelled_before ∙ ap (λ l. spell es ++ l) took.spelling ∙ sym (spell_more es t.entry q.rest)
+      spelled_on = spelled_before ∙ ap (λ l. spell es ++ l) took.spelling ∙ sym (ended_more text es t.entry q.rest)
 
       number_on : q.at ≡ first + length (es ++ (t.entry ∷ []))
       number_on = let longer = length-append es (t.entry ∷ []) in omega (arith, took.one_more, number_before)
@@ -195,7 +190,7 @@ module _ (start : Session Ternary) (stimulus : List ℕ) (first : ℕ) where
                 account = b.0;
                 given = b.1;
                 rest = text End ++ (10 ∷ p.rest);
-                spelled = subst (λ x. stimulus ≡ spell (taken x es) ++ p.rest) is under.spelled ∙ spell_more es End p.rest;
+                spelled = subst (λ x. stimulus ≡ spell (taken x es) ++ p.rest) is under.spelled ∙ ended_more text es End p.rest;
                 stops = Stops.past_end p.rest refl (subst (λ x. Fails x (lines (lines_of start).circuit) (suc (first + length es)) p.rest f) is (subst (λ n. Fails p.phase n (suc (first + length es)) p.rest f) under.same_lines (subst (λ n. Fails p.phase p.lines n p.rest f) number fails)));
               },
             )

@@ -8,14 +8,15 @@ use Rattle.semantics.specs.Changes.{AtMost}
 use Rattle.semantics.specs.Machines.{Machine, IsInput}
 use Rattle.semantics.specs.Moves.{fed, held}
 use Rattle.stimulus.specs.Rows.{text, spell, Named, Legal}
-use Rattle.stimulus.specs.Tests.{Fails}
+use Rattle.deck.proofs.Bytes.{ended_more}
+use Rattle.deck.proofs.Unique.{fails_one}
+use Rattle.stimulus.specs.Tests.{tests, Fails}
 use Rattle.stimulus.specs.declared.entry.Entry.{Entry}
 use Rattle.stimulus.specs.declared.entry.Entry.TheVariants.{Feed, Hold, End}
 use Rattle.stimulus.specs.declared.reader.Phase.TheVariants as phase
-use Rattle.stimulus.proofs.Unique.{record_one, fails_one, not_failed, over_no_fault}
+use Rattle.stimulus.proofs.Unique.{record_one, not_failed}
 use Rattle.values.specs.declared.ternary.Ternary.{Ternary}
 use Rattle.listing.specs.Given.{Gives, Given, Whole, Stops, FirstFault}
-use Rattle.listing.proofs.Giving.{spell_more}
 
 -- an answer to a call, and the account then
 abbrev Ends : Type 1
@@ -120,7 +121,7 @@ module _ (s : Machine Ternary) (lines : ℕ) (few : lines < 10 ^ 4) (inputs_are_
 
   -- where bytes do not go on, there is one fault
   stops_one : (b : Account Ternary) (at : ℕ) (x : List ℕ) (f g : Told) → Stops s b lines at x f → Stops s b lines at x g → f ≡ g
-  stops_one b at x f g (Stops.unread u) (Stops.unread v) = fails_one phase.Given lines at x f g u v
+  stops_one b at x f g (Stops.unread u) (Stops.unread v) = fails_one (tests phase.Given lines) at x f g u.1 v.1
   stops_one b at x f g (Stops.unread u) (Stops.refused e after is legal bad told) = absurd (not_read at x after e f legal is u)
   stops_one b at x f g (Stops.unread u) (Stops.past_end after is v) = absurd (not_read at x after End f tt is u)
   stops_one b at x f g (Stops.refused e after is legal bad told) (Stops.unread v) = absurd (not_read at x after e g legal is v)
@@ -134,17 +135,17 @@ module _ (s : Machine Ternary) (lines : ℕ) (few : lines < 10 ^ 4) (inputs_are_
   stops_one b at x f g (Stops.past_end after is u) (Stops.refused {number = m} e after' is' legal bad told) = absurd (no_end b b e (Err m) after' after legal bad (sym is' ∙ is))
   stops_one b at x f g (Stops.past_end after is u) (Stops.past_end after' is' v) =
       let one = (record_one lines End End after' after tt tt (sym is' ∙ is)).1 in
-      fails_one phase.Done lines (suc at) after f g u (subst (λ z. Fails phase.Done lines (suc at) z g) one v)
+      fails_one (tests phase.Done lines) (suc at) after f g u.1 (subst (λ z. Fails phase.Done lines (suc at) z g) one v).1
 
   -- the end with no byte after it is no stop
   end_no_stop : (b : Account Ternary) (at : ℕ) (x : List ℕ) (f : Told) → x ≡ text End ++ (10 ∷ []) → Stops s b lines at x f → ⊥
   end_no_stop b at x f last (Stops.unread u) = not_read at x [] End f tt last u
   end_no_stop b at x f last (Stops.refused {number = m} e after is legal bad told) = no_end b b e (Err m) after [] legal bad (sym is ∙ last)
   end_no_stop b at x f last (Stops.past_end after is u) =
-      over_no_fault phase.Done lines (suc at) after f (refl, (record_one lines End End after [] tt tt (sym is ∙ last)).1) u
+      absurd (u.0 (refl, (record_one lines End End after [] tt tt (sym is ∙ last)).1))
 
   whole_read : (a b : Account Ternary) (bytes : List ℕ) (w : Whole s a bytes b) → bytes ≡ spell w.entries ++ (text End ++ (10 ∷ []))
-  whole_read a b bytes w = w.spelled ∙ sym (append-nil _) ∙ spell_more w.entries End []
+  whole_read a b bytes w = w.spelled ∙ sym (append-nil _) ∙ ended_more text w.entries End []
 
   -- bytes that are whole give one account
   pub whole_one : (a b d : Account Ternary) (bytes : List ℕ) → Whole s a bytes b → Whole s a bytes d → b ≡ d

@@ -1,17 +1,13 @@
 -- What is answered of the next record of a stimulus is determined by its bytes.
-use Rattle.std.proofs.Common.{◌≡◌, ℕ, List, ◌∷◌, ◌++◌, Option, None, Some, Result, Ok, Err, sym, refl, ap, ◌∙◌, subst, subst₂}
+use Rattle.std.proofs.Common.{◌≡◌, ℕ, List, ◌∷◌, ◌++◌, Option, None, Some, Result, Ok, Err, sym, refl, ap, ◌∙◌, subst₂}
 use Rattle.deck.specs.Faults.{Told}
-use Rattle.deck.specs.Outcomes.{Unended}
-use Rattle.deck.specs.Tests.{FirstFailed, fault_of}
-use Rattle.deck.proofs.Passing.{none_failed, first_failed_one}
-use Rattle.deck.proofs.Records.{ended, cut_one}
+use Rattle.deck.proofs.Records.{cut_one}
+use Rattle.deck.proofs.Unique.{fails_one, passes_all}
 use Rattle.stimulus.specs.Readers.{Place, phase_after, Took, Outcome}
 use Rattle.stimulus.specs.Rows.{text, Legal}
 use Rattle.stimulus.specs.Tests.{tests, Over, Fails}
-use Rattle.stimulus.specs.Tests.Fails.{cut, failed}
 use Rattle.stimulus.specs.declared.entry.Entry.{Entry}
 use Rattle.stimulus.specs.declared.entry.Taken.{Taken}
-use Rattle.stimulus.specs.declared.reader.Phase.{Phase}
 use Rattle.stimulus.specs.declared.reader.Phase.TheVariants.{Given, Done}
 use Rattle.stimulus.proofs.Texts.{text_unended, text_passes, text_one}
 
@@ -21,26 +17,9 @@ record_one lines e d x y legal legal' same =
     let cuts = cut_one (text e) (text d) x y (text_unended lines e legal) (text_unended lines d legal') same in
     (text_one lines e d legal legal' cuts.0, cuts.1)
 
--- the same record fails with one fault
-pub fails_one : (phase : Phase) (lines at : ℕ) (bytes : List ℕ) (f g : Told) → Fails phase lines at bytes f → Fails phase lines at bytes g → f ≡ g
-fails_one phase lines at bytes f g (cut u on is) (cut v on' is') = is ∙ sym is'
-fails_one phase lines at bytes f g (cut u on is) (failed r x t e v first is') = absurd (ended r x (rw e at u))
-fails_one phase lines at bytes f g (failed r x t e v first is) (cut u on is') = absurd (ended r x (rw e at u))
-fails_one phase lines at bytes f g (failed r x t e u first is) (failed q y w e' v first' is') =
-    let same = (cut_one r q x y u v (sym e ∙ e')).0 in
-    is ∙ ap (fault_of at) (first_failed_one q _ t w (subst (λ z. FirstFailed z (tests phase lines z) t) same first) first') ∙ sym is'
-
 -- a record that fails is not the text of a legal one
 pub not_failed : (lines at : ℕ) (e : Entry) (x : List ℕ) (f : Told) → Legal lines e → Fails Given lines at (text e ++ (10 ∷ x)) f → ⊥
-not_failed lines at e x f legal (cut u on is) = ended (text e) x u
-not_failed lines at e x f legal (failed q y t same u first is) =
-    let one = (cut_one (text e) q x y (text_unended lines e legal) u same).0 in
-    none_failed (text e) _ t (text_passes lines e legal) (subst (λ z. FirstFailed z (tests Given lines z) t) (sym one) first)
-
--- where no record is left, none fails
-pub over_no_fault : (phase : Phase) (lines at : ℕ) (bytes : List ℕ) (f : Told) → Over phase bytes → Fails phase lines at bytes f → ⊥
-over_no_fault phase lines at bytes f over (cut u on is) = on over
-over_no_fault phase lines at bytes f over (failed r x t e u first is) = ended r x (subst Unended (sym over.1 ∙ e) tt)
+not_failed lines at e x f legal fails = passes_all (tests Given lines) at (text e) x f (text_unended lines e legal) (text_passes lines e legal) fails.1
 
 given_not_done : Given ≡ Done → ⊥
 given_not_done e = cc
@@ -65,10 +44,10 @@ took_not_failed p q t f a fails =
 pub outcome_one : (p q u : Place) (a b : Result (Option Taken) Told) → Outcome p a q → Outcome p b u → (a ≡ b) × (q ≡ u)
 outcome_one p q u (Ok None) (Ok None) a b = (refl, a.1 ∙ sym b.1)
 outcome_one p q u (Ok None) (Ok (Some v)) a b = absurd (took_not_over p u v b a.0)
-outcome_one p q u (Ok None) (Err g) a b = absurd (over_no_fault p.phase p.lines p.at p.rest g a.0 b.0)
+outcome_one p q u (Ok None) (Err g) a b = absurd (b.0.0 a.0)
 outcome_one p q u (Ok (Some t)) (Ok None) a b = absurd (took_not_over p q t a b.0)
 outcome_one p q u (Ok (Some t)) (Ok (Some v)) a b = let same = took_one p q u t v a b in (ap (λ x. Ok (Some x)) same.0, same.1)
 outcome_one p q u (Ok (Some t)) (Err g) a b = absurd (took_not_failed p q t g a b.0)
-outcome_one p q u (Err f) (Ok None) a b = absurd (over_no_fault p.phase p.lines p.at p.rest f b.0 a.0)
+outcome_one p q u (Err f) (Ok None) a b = absurd (a.0.0 b.0)
 outcome_one p q u (Err f) (Ok (Some v)) a b = absurd (took_not_failed p u v f b a.0)
-outcome_one p q u (Err f) (Err g) a b = (ap Err (fails_one p.phase p.lines p.at p.rest f g a.0 b.0), a.1 ∙ sym b.1)
+outcome_one p q u (Err f) (Err g) a b = (ap Err (fails_one (tests p.phase p.lines) p.at p.rest f g a.0.1 b.0.1), a.1 ∙ sym b.1)

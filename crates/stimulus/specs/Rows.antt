@@ -1,6 +1,7 @@
 -- The records of a stimulus and how they are spelled in columns.
 use Rattle.std.specs.Prelude.{ℕ, ◌<◌, ◌≤◌, ◌^◌, List, [], ◌∷◌, ◌++◌, codes, decimal}
 use Rattle.columns.specs.Spelling.{spelled}
+use Rattle.deck.specs.Rows.{ended_each}
 use Rattle.values.specs.Knowledge.{letter}
 use Rattle.stimulus.specs.declared.entry.Entry.{Entry}
 use Rattle.stimulus.specs.declared.entry.Entry.TheVariants.{Feed, Hold, End}
@@ -17,10 +18,8 @@ message (Feed line tick value) = codes "feed line " ++ (decimal line ++ (codes "
 message (Hold line tick) = codes "hold line " ++ (decimal line ++ (codes " up to " ++ decimal tick))
 message End = codes "end"
 
--- each record is ended by byte 10
 abbrev pub spell : List Entry → List ℕ
-spell [] = []
-spell (e ∷ es) = text e ++ (10 ∷ spell es)
+spell records = ended_each text records
 
 -- a line of the netlist, in four columns, and a tick of 32 bits
 pub record Named (lines line tick : ℕ) : Type 0 where

@@ -1,8 +1,8 @@
 -- The tests of a stimulus's record, in their order, and where it fails.
 use Rattle.std.specs.Prelude.{◌≡◌, ℕ, cond, ◌==◌, List, [], ◌∷◌, ◌++◌}
 use Rattle.deck.specs.Faults.{Told}
-use Rattle.deck.specs.Outcomes.{Unended}
-use Rattle.deck.specs.Tests.{Test, long, out_of_order, value_known, number_tests, FirstFailed, fault_of}
+use Rattle.deck.specs.Outcomes.{FailsTest}
+use Rattle.deck.specs.Tests.{Test, long, out_of_order, value_known, number_tests}
 use Rattle.stimulus.specs.declared.reader.Phase.{Phase}
 use Rattle.stimulus.specs.declared.reader.Phase.TheVariants.{Given, Done}
 
@@ -30,7 +30,6 @@ tests Given lines (b ∷ fields) = cond (b == 70) (feed_tests lines) (cond (b ==
 abbrev pub Over : Phase → List ℕ → Type 0
 Over phase bytes = (phase ≡ Done) × (bytes ≡ [])
 
--- the record that the bytes begin with is cut, or fails a test
-pub data Fails (phase : Phase) (lines at : ℕ) (bytes : List ℕ) (f : Told) : Type 0 where
-  cut : Unended bytes → (Over phase bytes → ⊥) → f ≡ record { number = 1; layer = 82; at = at; column = 1 } → Fails phase lines at bytes f
-  failed : (r after : List ℕ) (t : Test) → bytes ≡ r ++ (10 ∷ after) → Unended r → FirstFailed r (tests phase lines r) t → f ≡ fault_of at t → Fails phase lines at bytes f
+-- a record is left, which is cut, or fails one of its tests
+abbrev pub Fails : Phase → ℕ → ℕ → List ℕ → Told → Type 0
+Fails phase lines at bytes f = (Over phase bytes → ⊥) × FailsTest (tests phase lines) at bytes f

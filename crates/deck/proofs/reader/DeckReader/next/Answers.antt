@@ -2,7 +2,7 @@ use Rattle.std.proofs.Common.{◌≡◌, ℕ, suc, ◌+◌, ◌<◌, List, ◌�
 use Rattle.std.proofs.lemmas.List.{length-take-le}
 use Rattle.deck.specs.Faults.{told}
 use Rattle.deck.specs.Outcomes.{Unended, Fails}
-use Rattle.deck.specs.Outcomes.Fails.{failed}
+use Rattle.deck.specs.Outcomes.FailsTest.{failed}
 use Rattle.deck.specs.Progress.{Progress, expected, rows}
 use Rattle.deck.specs.Readers.{progress_of, Took, TookFrom}
 use Rattle.deck.specs.Records.{Failed}

@@ -1,9 +1,9 @@
-use Rattle.std.proofs.Common.{◌≡◌, IsErrAnd, Result, Some, Ok, Err, take, drop, suc, sym, refl, ap, ◌∙◌, subst, arith, rules}
+use Rattle.std.proofs.Common.{◌≡◌, IsErrAnd, length, Result, Some, Ok, Err, take, drop, suc, sym, refl, ap, ◌∙◌, subst, arith, rules}
 use Rattle.std.proofs.lemmas.Grind.{common_steps}
 use Rattle.std.proofs.lemmas.Result.{err_from_is_err_and}
 use Rattle.deck.proofs.Bytes.{at_ending}
 use Rattle.stimulus.specs.Readers.{place, answer_of, Outcome}
-use Rattle.stimulus.specs.Tests.Fails.{failed}
+use Rattle.deck.specs.Outcomes.FailsTest.{failed}
 use Rattle.stimulus.proofs.Unique.{outcome_one}
 use Rattle.stimulus.proofs.reader.StimulusReader.next.Goals as goal
 
@@ -19,7 +19,7 @@ returns-in_err-entry-clause-answers c =
     let n = c.in-Some.length in
     let bad = c.in_err-entry.ensures in
     subst (λ r. Outcome p (answer_of r) p) (sym (err_is c.from_residual.result c.in_err-entry.field-0.0 c.from_residual.ensures.1))
-    (failed (take n bytes) (drop (suc n) bytes) bad.test (at_ending bytes n found.0 found.1) found.2 bad.first bad.is, refl)
+    ((λ over. omega (arith, found.0, ap length over.1), failed (take n bytes) (drop (suc n) bytes) bad.test (at_ending bytes n found.0 found.1) found.2 bad.first bad.is), refl)
 
 pub returns-in_err-entry-clause-only : goal.returns-in_err-entry-clause-only
 returns-in_err-entry-clause-only c = λ a p other. outcome_one _ p _ a _ other (returns-in_err-entry-clause-answers c)

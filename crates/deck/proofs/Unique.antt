@@ -1,10 +1,10 @@
 -- What reading a deck comes to is determined by its bytes.
 use Rattle.std.proofs.Common.{◌≡◌, ℕ, suc, ◌⊎◌, List, [], ◌∷◌, ◌++◌, length, sym, ap, ◌∙◌, subst, subst₂, inl, inr, append_assoc}
+use Rattle.std.specs.List.{AllByRecursion}
 use Rattle.netlist.specs.Drafts.{Sheet}
 use Rattle.deck.specs.Faults.{Told}
 use Rattle.deck.specs.Progress.{Progress, blank, over, rows, Legal, expected, deck_text}
 use Rattle.deck.specs.Rows.{Row, text, spell}
-use Rattle.std.specs.List.{AllByRecursion}
 use Rattle.deck.specs.Tests.{Test, Passes, FirstFailed, fault_of}
 use Rattle.deck.specs.Outcomes.FailsTest.{cut, failed}
 use Rattle.deck.specs.Outcomes.{Unended, FailsTest, Fails, FirstFault, Deck, Answer, used, fault, Outcome}

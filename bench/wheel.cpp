@@ -15,7 +15,7 @@ namespace {
 constexpr unsigned STEPS = 6;
 constexpr unsigned PERIOD = 200;
 
-// Longer than any delay.
+// Longer than any delay; a deck with a longer one is refused.
 constexpr unsigned WHEEL = 64;
 
 // Bits at random, always the same.
@@ -67,6 +67,10 @@ Netlist read_deck(std::istream& in) {
     if (record[0] == 'N') netlist.inputs = number(record, 2, 4);
     if (record[0] != 'G') continue;
     Gate gate{kind_of(record.substr(5, 4)), number(record, 10, 5), {}};
+    if (gate.delay >= WHEEL) {
+      std::cerr << "wheel: a delay too long\n";
+      std::exit(1);
+    }
     for (std::size_t column = 15; column <= record.size(); column += 4) gate.reads.push_back(number(record, column, 4) - 1);
     netlist.gates.push_back(gate);
   }

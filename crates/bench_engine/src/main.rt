@@ -13,7 +13,7 @@ use deck::closing::read_netlist;
 use engine::session::Session;
 use events::record::EventRecord;
 use netlist::closed::Netlist;
-use std::alloc::Global;
+use std::process::ExitCode;
 use std::rt::Runtime;
 use std::{env, io};
 use values::bit::Bit;
@@ -24,17 +24,12 @@ const STRETCHES: u32 = 3_000;
 // How many records each line has: its base, and one for each change of a stretch, of which there are fewer.
 const RECORDS: usize = 500;
 
-// How many stretches the first argument tells.
-fn told_stretches(rt: &impl Runtime) -> io::Result<u32> {
-    let told = env::args(rt)?.nth(1);
-    Ok(told.and_then(|word| word.parse().ok()).unwrap_or(STRETCHES))
-}
-
-// So many copies of a value.
-fn copies<T: Copy>(alloc: Global, value: T, count: usize) -> Result<Vec<T>, Stop> {
-    let mut all = Vec::with_capacity(alloc, count)?;
-    all.resize(count, value)?;
-    Ok(all)
+// The number of stretches that a word spells.
+fn read_stretches(word: String) -> Result<u32, Stop> {
+    match word.parse() {
+        Ok(stretches) => Ok(stretches),
+        Err(_) => Err(Stop::Misuse(word)),
+    }
 }
 
 // Reads the deck that is given on standard input.
@@ -50,23 +45,35 @@ fn read<R: Runtime + AllocGlobal>(rt: &R) -> Result<Netlist, Stop> {
 fn measure<R: Runtime + AllocGlobal>(rt: &R, stretches: u32) -> Result<(), Stop> {
     let netlist = read(rt)?;
     let low = Bit(false);
-    let starts = copies(rt.alloc(), low, netlist.inputs())?;
+    let starts = vec![in rt.alloc(); low; netlist.inputs()]?;
     let record = EventRecord {
         tick: 0,
         value: low,
     };
-    let mut store = copies(rt.alloc(), record, netlist.lines() * RECORDS)?;
+    let mut store = vec![in rt.alloc(); record; netlist.lines() * RECORDS]?;
     Session::check(&netlist, &store, &starts)?;
     let mut load = Load::new(Session::make(netlist, &mut store, &starts));
     load.stretches(stretches)?;
     load.report(rt)
 }
 
-fn main(rt: HostRuntime) -> io::Result<()> {
-    let stretches = told_stretches(&rt)?;
-    match measure(&rt, stretches) {
-        Err(Stop::Io(error)) => Err(error),
-        Err(stop) => println!(rt; "stops: {stop}"),
-        Ok(()) => Ok(()),
+fn run<R: Runtime + AllocGlobal>(rt: &R) -> Result<(), Stop> {
+    match env::args(rt)?.nth(1) {
+        None => measure(rt, STRETCHES),
+        Some(word) if word.as_str() == "--help" => {
+            println!(rt; "bench_engine [STRETCHES] < DECK")?;
+            Ok(())
+        }
+        Some(word) => measure(rt, read_stretches(word)?),
+    }
+}
+
+fn main(rt: HostRuntime) -> ExitCode {
+    match run(&rt) {
+        Ok(()) => ExitCode::SUCCESS,
+        Err(stop) => {
+            let _ = eprintln!(rt; "bench_engine: {stop}");
+            ExitCode::FAILURE
+        }
     }
 }

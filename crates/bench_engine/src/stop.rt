@@ -11,6 +11,8 @@ pub enum Stop {
     Fault(#[from] Fault),
     #[error("refused: {0}")]
     Refusal(#[from] Refusal),
+    #[error("{0} is no number of stretches")]
+    Misuse(String),
     #[error("{0}")]
     Io(#[from] io::Error),
     #[error("out of memory")]

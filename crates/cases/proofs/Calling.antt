@@ -17,6 +17,7 @@ use Rattle.semantics.specs.Worked.{taken_each}
 use Rattle.semantics.proofs.Comparing.{Equality}
 use Rattle.semantics.proofs.Listing.{one_list}
 use Rattle.semantics.proofs.Proved.{settled_is_the_distance}
+use Rattle.semantics.proofs.Wiring.{line_range, input_range, gate_range}
 use Rattle.semantics.proofs.Testing as Testing
 use Rattle.semantics.proofs.Testing.{is_input, is_gate, when_input, when_gate}
 use Rattle.engine.specs.Answers.{Taking, Valued, Eventful, Stated, Feeding, Holding, Trimming}
@@ -25,6 +26,13 @@ use Rattle.cases.proofs.Finding.{passed, and_then, or_else, at, up_to}
 
 pub not_both : (b : Bool) → b ≡ false → b ≡ true → ⊥
 not_both b one other = cc
+
+-- a netlist without lines has none
+pub lineless : (c : Circuit) → lines c ≡ 0 → (n : ℕ) → IsLine (topology c) n → ⊥
+lineless c none n line = ⊎_elim (λ an_input. let range = input_range c n an_input in omega (arith, range.0, few)) (λ a_gate. let range = gate_range c n a_gate in omega (arith, range.0, few)) line
+  where
+    few : n ≤ 0
+    few = let within = line_range c n line in omega (arith, within, none)
 
 module _ (c : Circuit) (n : ℕ) where
   abbrev input_here : Option (IsInput (topology c) n)
@@ -164,9 +172,9 @@ module _ {M : Type 0} (e : Equality M) (s : System M) (c : Circuit) (room : ℕ)
     trimming t (Err number) =
         stays
         (or_else (at (λ k. Trimming S a t (Err k) a) 13 number (and_then (line_here c 1) (λ here. and_then (below t a.trim) (λ past. Some (Trimming.past {n = 1} here past)))))
-        (at (λ k. Trimming S a t (Err k) a) 15 number (and_then (within a.trim t) (λ onward.
+        (at (λ k. Trimming S a t (Err k) a) 15 number (or_else (and_then (same_tick (lines c) 0) (λ none. Some (Trimming.no_lines (lineless c none)))) (and_then (within a.trim t) (λ onward.
         or_else (up_to (λ n. and_then (input_here c n) (λ here. and_then (below (a.end n) t) (λ beyond. Some (Trimming.beyond_end here onward beyond)))) (lines c))
-        (up_to (λ n. and_then (gate_here c n) (λ here. and_then (below (a.front n) t) (λ beyond. Some (Trimming.beyond_front here onward beyond)))) (lines c))))))
+        (up_to (λ n. and_then (gate_here c n) (λ here. and_then (below (a.front n) t) (λ beyond. Some (Trimming.beyond_front here onward beyond)))) (lines c)))))))
 
     -- the kept changes of a line
     abbrev kept : (n : ℕ) → Option ((ticks : List ℕ) × KeptChanges S a n ticks)

@@ -7,8 +7,8 @@ use Rattle.semantics.specs.Machines.{Machine}
 use Rattle.semantics.specs.Moves.{Rest}
 use Rattle.engine.specs.Answers.{Taking, Valued, Eventful, Stated, Feeding, Holding, Trimming}
 
--- A call with its answer, which tells a refusal by its number. The last three are no calls, but say what holds there: the
--- kept changes of a line, with their values; its distance; that all gates rest.
+-- A call with its answer, which tells a refusal by its number. The last three say what holds there: the kept changes of
+-- a line, with their values; its distance; that all gates rest.
 pub data Call (M : Type 0) : Type 0 where
   feed : (line tick : ℕ) → M → Result Unit ℕ → Call M
   hold : (line tick : ℕ) → Result Unit ℕ → Call M

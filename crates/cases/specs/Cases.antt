@@ -1,6 +1,6 @@
 -- Worked cases: what is asked, and what has to come of it.
 use Rattle.std.specs.Prelude.{ℕ, ◌-◌, ◌/◌, Bool, List, [], ◌∷◌, length, Ok, Err, Result}
-use Rattle.netlist.specs.Gates.{Circuit}
+use Rattle.netlist.specs.Gates.{Circuit, nothing}
 use Rattle.values.specs.Knowledge.{three_valued}
 use Rattle.values.specs.Systems.{System, two_valued}
 use Rattle.values.specs.declared.ternary.Ternary.{Ternary}
@@ -22,15 +22,14 @@ pub record Job (M : Type 0) : Type 0 where
   pub making : Result Unit ℕ
   pub calls : List (Call M)
 
--- what a made session gives; one that is refused has no lines
-abbrev pub WhenMade : Result Unit ℕ → Type 0 → Type 0
-WhenMade (Ok made) Given = Given
-WhenMade (Err number) Given = Unit {0}
+-- what a session's calls give after such an answer to its making; one that is refused has no lines, and nothing was given
+abbrev pub Called : {M : Type 0} → System M → Job M → Result Unit ℕ → Type 0
+Called s job (Ok done) = Gives (machine s job.circuit (job.records / lines job.circuit - 1)) (made (given (λ v. v) s.start job.starts)) job.calls
+Called s job (Err number) = Gives (machine s nothing 0) (made (λ n. s.start)) job.calls
 
 -- making gives its answer, and then each call gives its own
 abbrev pub Worked : {M : Type 0} → System M → Job M → Type 0
-Worked s job =
-    Making job.circuit job.records (length job.starts) job.making × WhenMade job.making (Gives (machine s job.circuit (job.records / lines job.circuit - 1)) (made (given (λ v. v) s.start job.starts)) job.calls)
+Worked s job = Making job.circuit job.records (length job.starts) job.making × Called s job job.making
 
 -- the bytes of records, each ended by byte 10
 abbrev pub ended : List (List ℕ) → List ℕ

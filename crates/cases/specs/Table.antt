@@ -79,9 +79,32 @@ list_is_full = record {
       ∷ [];
 }
 
--- Five records are too few for three lines.
+-- Five records are too few for three lines; nor can a session be made of no lines, or without a value for the input. A session
+-- that could not be made has no lines.
 abbrev pub store_is_short : Job Bool
-store_is_short = record { circuit = pulse; records = 5; starts = false ∷ []; making = Err 10; calls = [] }
+store_is_short = record { circuit = pulse; records = 5; starts = false ∷ []; making = Err 10; calls = feed 1 10 true (Err 12) ∷ [] }
+
+abbrev pub no_value_is_given : Job Bool
+no_value_is_given = record { circuit = pulse; records = 9; starts = []; making = Err 11; calls = [] }
+
+abbrev pub nothing_is_made : Job Bool
+nothing_is_made = record {
+  circuit = nothing;
+  records = 9;
+  starts = [];
+  making = Err 8;
+  calls =
+      feed 1 10 true (Err 12)
+      ∷ hold 1 10 (Err 12)
+      ∷ take 1 (Err 12)
+      ∷ run 5 0 Ending.rest
+      ∷ at_rest
+      ∷ trim 0 (Err 15)
+      ∷ value_at 1 0 (Err 12)
+      ∷ event 1 0 (Err 12)
+      ∷ state 1 (Err 12)
+      ∷ [];
+}
 
 -- In `latch`, lines 1 and 2 are inputs, line 3 is NOR of lines 2 and 4, and line 4 is NOR of lines 1 and 3, each one tick
 -- later. Line 1 is 1 from tick 0 on.
@@ -103,7 +126,7 @@ latch_is_set = record {
       ∷ [];
 }
 
--- Each call is refused in each way, but for a list that is full. Where one call can be refused in two ways, the first counts.
+-- Each call of a made session is refused in each way, but for a list that is full. Where one call can be refused in two ways, the first counts.
 abbrev pub all_is_refused : Job Bool
 all_is_refused = record {
   circuit = pulse;
@@ -149,6 +172,8 @@ table =
     ∷ in_bits taken_early
     ∷ in_bits list_is_full
     ∷ in_bits store_is_short
+    ∷ in_bits no_value_is_given
+    ∷ in_bits nothing_is_made
     ∷ in_three_values latch_is_set
     ∷ in_bits all_is_refused
     ∷ deck (codes "N   1   2   1" ∷ codes "I   1" ∷ codes "G   2NOT     2   1" ∷ codes "G   3AND     1   1   2" ∷ codes "O   3" ∷ codes "E" ∷ []) (used 70) pulse

@@ -1,5 +1,5 @@
 -- Worked cases: what is asked, and what has to come of it.
-use Rattle.std.specs.Prelude.{ℕ, ◌-◌, ◌/◌, Bool, List, [], ◌∷◌, length, Ok, Err, Result}
+use Rattle.std.specs.Prelude.{ℕ, Bool, List, [], ◌∷◌, length, Ok, Err, Result}
 use Rattle.netlist.specs.Gates.{Circuit, nothing}
 use Rattle.values.specs.Knowledge.{three_valued}
 use Rattle.values.specs.Systems.{System, two_valued}
@@ -7,11 +7,10 @@ use Rattle.values.specs.declared.ternary.Ternary.{Ternary}
 use Rattle.deck.specs.Closing.{ClosedOutcome}
 use Rattle.deck.specs.Outcomes.{Answer}
 use Rattle.deck.specs.Rows.{ended_each}
-use Rattle.semantics.specs.Circuits.{lines}
 use Rattle.semantics.specs.CircuitMachine.{machine}
 use Rattle.semantics.specs.Moves.{made}
 use Rattle.engine.specs.Answers.{Making}
-use Rattle.engine.specs.Sessions.{given}
+use Rattle.engine.specs.Sessions.{given, room_for}
 use Rattle.cases.specs.Calls.{Call, Gives}
 
 -- a session: its netlist, how many records its store has, its inputs' initial values, what making answers, and its calls
@@ -24,7 +23,7 @@ pub record Job (M : Type 0) : Type 0 where
 
 -- what a session's calls give after such an answer to its making; one that is refused has no lines, and nothing was given
 abbrev pub Called : {M : Type 0} → System M → Job M → Result Unit ℕ → Type 0
-Called s job (Ok done) = Gives (machine s job.circuit (job.records / lines job.circuit - 1)) (made (given (λ v. v) s.start job.starts)) job.calls
+Called s job (Ok done) = Gives (machine s job.circuit (room_for job.records job.circuit)) (made (given (λ v. v) s.start job.starts)) job.calls
 Called s job (Err number) = Gives (machine s nothing 0) (made (λ n. s.start)) job.calls
 
 -- making gives its answer, and then each call gives its own

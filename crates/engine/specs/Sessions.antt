@@ -40,8 +40,12 @@ Lent store s = s.store.ghost_name ≡ store.ghost_name
 
 -- What no call alters: which store was lent, the circuit, how many records each line has, and the records beyond those.
 pub record KeepsItsOwn {V : Type 0} (s s' : Session V) : Type 0 where
-  pub same_store : Lent s.store s'
+  pub lends_this_store : Lent s.store s'
   pub keeps : Keeps (lines_of s) (lines_of s') s.store.now s'.store.now
+
+-- how many changes of each line there is room for, where the store has so many records
+abbrev pub room_for : ℕ → Circuit → ℕ
+room_for records c = records / lines c - 1
 
 -- what initial values, given in the inputs' order, mean
 abbrev pub given : {V M : Type 0} → (V → M) → V → List V → ℕ → M

@@ -25,7 +25,7 @@ pub(crate) fn feed<V: ValueSystem>(
 ) -> Result<(), Refusal>
     requires { Holds (panel lines.old) store.old }
     ensures keeps { Keeps (panel lines.old) (panel lines.new) store.old store.new }
-    ensures refused { OnErr result ((lines.new ≡ lines.old) × (store.new ≡ store.old)) }
+    ensures refused_alters_nothing { OnErr result ((lines.new ≡ lines.old) × (store.new ≡ store.old)) }
     ensures answers { (a : Account V.Sense) → Stands V.meaning V.system (panel lines.old) store.old a → (b : Account V.Sense) × Feeding (machine_of V.system (panel lines.old)) a line tick (V.meaning value) (numbered result) b × Stands V.meaning V.system (panel lines.new) store.new b }
 {
     let Some(progress) = lines.input(line) else {
@@ -59,7 +59,7 @@ pub(crate) fn hold<V: ValueSystem>(
 ) -> Result<(), Refusal>
     requires { Holds (panel lines.old) store.old }
     ensures keeps { Keeps (panel lines.old) (panel lines.new) store.old store.new }
-    ensures refused { OnErr result ((lines.new ≡ lines.old) × (store.new ≡ store.old)) }
+    ensures refused_alters_nothing { OnErr result ((lines.new ≡ lines.old) × (store.new ≡ store.old)) }
     ensures answers { (a : Account V.Sense) → Stands V.meaning V.system (panel lines.old) store.old a → (b : Account V.Sense) × Holding (machine_of V.system (panel lines.old)) a line tick (numbered result) b × Stands V.meaning V.system (panel lines.new) store.new b }
 {
     let Some(progress) = lines.input(line) else {

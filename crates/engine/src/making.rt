@@ -61,7 +61,7 @@ fn begin_value<V: ValueSystem>(lines: &Lines, store: &[EventRecord<V>], row: &Ga
 }
 
 // Gives the line of a gate, unless it is looped, the value that its gate makes of what the lines that it reads begin with, and
-// tells whether that is another than it had.
+// answers `false` only where nothing is altered.
 fn settle<V: ValueSystem>(lines: &Lines, store: &mut [EventRecord<V>], line: u32) -> bool
     requires holds { Holds (panel lines.now) store.old }
     ensures keeps { Keeps (panel lines.now) (panel lines.now) store.old store.new }
@@ -83,7 +83,8 @@ fn settle<V: ValueSystem>(lines: &Lines, store: &mut [EventRecord<V>], line: u32
     true
 }
 
-// Settles each line once, in their order, and tells whether any was altered. So the lines are right one gate deeper.
+// Settles each line once, in their order, and answers `false` only where none is altered. So the lines are right one gate
+// deeper.
 fn pass<V: ValueSystem>(lines: &Lines, store: &mut [EventRecord<V>]) -> bool
     requires { Holds (panel lines.now) store.old }
     ensures keeps { Keeps (panel lines.now) (panel lines.now) store.old store.new }

@@ -5,7 +5,7 @@ ghost use Rattle.netlist.specs.Walks.{reads};
 ghost use Rattle.engine.specs.Readers.{ReadAt, AllRead};
 
 use netlist::closed::Netlist;
-use occurrences::Occurrences;
+use occurrences::{Occurrences, PLACES};
 
 // For each place of the lines that a gate reads, from first to fourth: which line stands there, gate by gate. The gates that
 // read a line are where it occurs.
@@ -25,7 +25,7 @@ fn read_at(netlist: &Netlist, line: u32, place: usize) -> u32
 fn reads_at(netlist: &Netlist, place: usize) -> Occurrences
     ensures { ReadAt (circuit netlist.now) place result }
 {
-    let mut reads = [0; 1024];
+    let mut reads = [0; PLACES];
     for line in 0..netlist.lines() {
         reads[line] = read_at(netlist, line as u32 + 1, place);
     }

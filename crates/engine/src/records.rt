@@ -64,7 +64,7 @@ pub(crate) fn record<V: ValueSystem>(
     requires a_line { IsLineOf (panel lines.now) line }
     requires holds { Holds (panel lines.now) store.old }
     ensures only_there { OnlyThere ((line - 1) * lines.now.stride) lines.now.stride store.old store.new }
-    ensures refused { result ≡ None → store.new ≡ store.old }
+    ensures refused_alters_nothing { result ≡ None → store.new ≡ store.old }
     ensures recorded { RecordedIn V.Alike ((panel lines.now).progress line).kept (record { tick = tick; value = value }) (part lines.now.stride line store.old) result (part lines.now.stride line store.new) }
     ensures fits { unwrap_or result ((panel lines.now).progress line).kept < lines.now.stride }
     ensures alike_is_same { (x y : V) → V.Alike x y ↔ (V.meaning x ≡ V.meaning y) }
@@ -111,10 +111,7 @@ pub(crate) fn drop_below<V: ValueSystem>(
 {
     let place = lines.place(line);
     let kept = lines.progress(line).kept;
-    let filler = EventRecord {
-        tick: 0,
-        value: V::START,
-    };
+    let filler = at_start(V::START);
     drop_in(&mut store[place..place + lines.stride], kept, tick, filler)
 }
 

@@ -18,7 +18,7 @@ use crate::taking::take;
 use events::record::EventRecord;
 use netlist::row::GateRow;
 use occurrences::Occurrences;
-use queue::{NO_KEY, Queue};
+use queue::{NO_KEY, PLACES, Queue};
 use values::system::ValueSystem;
 
 // Whether a gate's front can move: it is below its goal, and there is room for the change that may come next.
@@ -64,7 +64,7 @@ fn queue_of<V: ValueSystem>(lines: &Lines, store: &[EventRecord<V>]) -> Queue
     requires { Holds (panel lines.now) store.now }
     ensures { (a : Account V.Sense) → Stands V.meaning V.system (panel lines.now) store.now a → Queued (machine_of V.system (panel lines.now)) a result }
 {
-    let mut keys = [NO_KEY; 1024];
+    let mut keys = [NO_KEY; PLACES];
     for place in 0..lines.netlist.lines() {
         keys[place] = key(lines, store, place as u32 + 1);
     }

@@ -53,7 +53,7 @@ impl<'a, V: ValueSystem> Session<'a, V> {
     // A session of a netlist, in a lent store, whose inputs begin with these values. Where it cannot be made, nothing is
     // written, and the session has no lines.
     pub fn make(netlist: Netlist, store: &'a mut [EventRecord<V>], starts: &[V]) -> Session<'a, V>
-        ensures same_store { Lent store.entry result }
+        ensures lends_this_store { Lent store.entry result }
         ensures makes { (r : Result Unit ℕ) × Making (circuit netlist) (length store.old) (length starts.now) r × Made V.meaning V.system V.START (circuit netlist) starts.now store.old result r }
     {
         let Ok(()) = Session::check(&netlist, store, starts) else {
@@ -72,7 +72,7 @@ impl<'a, V: ValueSystem> Session<'a, V> {
     // An input keeps its last value up to a tick, where a new value begins.
     pub fn feed(&mut self, line: u32, tick: u32, value: V) -> Result<(), Refusal>
         ensures keeps { KeepsItsOwn self.old self.new }
-        ensures refused { OnErr result (self.new ≡ self.old) }
+        ensures refused_alters_nothing { OnErr result (self.new ≡ self.old) }
         ensures without_lines { HasNoLines self.old → numbered result ≡ Err 12 }
         ensures answers { (a : Account V.Sense) → StandsFor V.meaning V.system self.old a → (b : Account V.Sense) × Feeding (machine_in V.system self.old) a line tick (V.meaning value) (numbered result) b × StandsFor V.meaning V.system self.new b }
     {
@@ -82,7 +82,7 @@ impl<'a, V: ValueSystem> Session<'a, V> {
     // An input keeps its last value up to a tick.
     pub fn hold(&mut self, line: u32, tick: u32) -> Result<(), Refusal>
         ensures keeps { KeepsItsOwn self.old self.new }
-        ensures refused { OnErr result (self.new ≡ self.old) }
+        ensures refused_alters_nothing { OnErr result (self.new ≡ self.old) }
         ensures without_lines { HasNoLines self.old → numbered result ≡ Err 12 }
         ensures answers { (a : Account V.Sense) → StandsFor V.meaning V.system self.old a → (b : Account V.Sense) × Holding (machine_in V.system self.old) a line tick (numbered result) b × StandsFor V.meaning V.system self.new b }
     {
@@ -92,7 +92,7 @@ impl<'a, V: ValueSystem> Session<'a, V> {
     // Takes a gate: its front moves on towards its goal, and no other front does. Answers how far its line is settled.
     pub fn take(&mut self, line: u32) -> Result<u32, Refusal>
         ensures keeps { KeepsItsOwn self.old self.new }
-        ensures refused { OnErr result (self.new ≡ self.old) }
+        ensures refused_alters_nothing { OnErr result (self.new ≡ self.old) }
         ensures without_lines { HasNoLines self.old → numbered result ≡ Err 12 }
         ensures answers { (a : Account V.Sense) → StandsFor V.meaning V.system self.old a → (b : Account V.Sense) × Taking (machine_in V.system self.old) a line (numbered result) b × StandsFor V.meaning V.system self.new b }
     {
@@ -124,7 +124,7 @@ impl<'a, V: ValueSystem> Session<'a, V> {
     // Drops the changes below a tick, which becomes the trim tick.
     pub fn trim(&mut self, tick: u32) -> Result<(), Refusal>
         ensures keeps { KeepsItsOwn self.old self.new }
-        ensures refused { OnErr result (self.new ≡ self.old) }
+        ensures refused_alters_nothing { OnErr result (self.new ≡ self.old) }
         ensures without_lines { HasNoLines self.old → numbered result ≡ Err 15 }
         ensures answers { (a : Account V.Sense) → StandsFor V.meaning V.system self.old a → (b : Account V.Sense) × Trimming (machine_in V.system self.old) a tick (numbered result) b × StandsFor V.meaning V.system self.new b }
     {

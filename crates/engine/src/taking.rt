@@ -81,7 +81,7 @@ pub(crate) fn take<V: ValueSystem>(
 ) -> Result<u32, Refusal>
     requires { Holds (panel lines.old) store.old }
     ensures keeps { Keeps (panel lines.old) (panel lines.new) store.old store.new }
-    ensures refused { OnErr result ((lines.new ≡ lines.old) × (store.new ≡ store.old)) }
+    ensures refused_alters_nothing { OnErr result ((lines.new ≡ lines.old) × (store.new ≡ store.old)) }
     ensures answers { (a : Account V.Sense) → Stands V.meaning V.system (panel lines.old) store.old a → (b : Account V.Sense) × Taking (machine_of V.system (panel lines.old)) a line (numbered result) b × Stands V.meaning V.system (panel lines.new) store.new b }
 {
     let Some(row) = lines.gate(line) else {

@@ -53,7 +53,7 @@ taken phase.Done es = es ++ (End ∷ [])
 
 keeps_all : {V : Type 0} (s t u : Session V) → KeepsItsOwn s t → KeepsItsOwn t u → KeepsItsOwn s u
 keeps_all s t u first second =
-    record { same_store = second.same_store ∙ first.same_store; keeps = keeps_on (lines_of s) (lines_of t) (lines_of u) s.store.now t.store.now u.store.now first.keeps second.keeps }
+    record { lends_this_store = second.lends_this_store ∙ first.lends_this_store; keeps = keeps_on (lines_of s) (lines_of t) (lines_of u) s.store.now t.store.now u.store.now first.keeps second.keeps }
 
 module _ (start : Session Ternary) (stimulus : List ℕ) (first : ℕ) where
   -- these records were taken up to a place, and all that they give was accepted
@@ -199,7 +199,7 @@ module _ (start : Session Ternary) (stimulus : List ℕ) (first : ℕ) where
   begun p rest at same_lines begins = record {
     entries = [];
     under = record {
-      keeps = record { same_store = refl; keeps = record { circuit = refl; stride = refl; same_length = refl; beyond = refl } };
+      keeps = record { lends_this_store = refl; keeps = record { circuit = refl; stride = refl; same_length = refl; beyond = refl } };
       spelled = subst (λ x. stimulus ≡ spell (taken x []) ++ p.rest) (sym begins) (sym rest);
       number = subst (λ x. p.at ≡ first + length (taken x [])) (sym begins) (omega (arith, at));
       same_lines = same_lines;

@@ -1,9 +1,10 @@
 -- The listing of a deck with its stimulus.
-use Rattle.std.specs.Prelude.{◌≡◌, ℕ, ◌+◌, ◌-◌, ◌/◌, ◌^◌, ◌<◌, List, [], ◌∷◌, ◌++◌, length, drop}
+use Rattle.std.specs.Prelude.{◌≡◌, ℕ, ◌+◌, ◌^◌, ◌<◌, List, [], ◌∷◌, ◌++◌, length, drop}
 use Rattle.std.specs.List.{flat_map}
 use Rattle.deck.specs.Closing.{Sound, Refused}
 use Rattle.deck.specs.Faults.{Told, fault_row}
 use Rattle.netlist.specs.Gates.{Circuit}
+use Rattle.engine.specs.Sessions.{room_for}
 use Rattle.semantics.specs.Accounts.{Account, settled, value, KeptChanges}
 use Rattle.semantics.specs.Circuits.{lines}
 use Rattle.semantics.specs.CircuitMachine.{machine}
@@ -18,9 +19,9 @@ use Rattle.values.specs.declared.ternary.Ternary.TheVariants.{X}
 use Rattle.listing.specs.Given.{Whole, FirstFault}
 use Rattle.listing.specs.Rows.{line_row, change_row}
 
--- a circuit in three values, with 4,096 records for all lines, of which each line's first holds its base
+-- a circuit in three values, with a store of 4,096 records
 abbrev pub lister_machine : Circuit → Machine Ternary
-lister_machine c = machine three_valued c (4096 / lines c - 1)
+lister_machine c = machine three_valued c (room_for 4096 c)
 
 -- every input begins with X
 abbrev pub unknown : Account Ternary

@@ -43,7 +43,7 @@ const BLANK: EventRecord<Ternary> = EventRecord {
 // Gives a session what a record says; an end gives nothing.
 fn give(session: &mut Session<Ternary>, entry: Entry) -> Result<(), Refusal>
     ensures keeps { KeepsItsOwn session.old session.new }
-    ensures refused { OnErr result (session.new ≡ session.old) }
+    ensures refused_alters_nothing { OnErr result (session.new ≡ session.old) }
     ensures ends { entry ≡ End → (result ≡ Ok tt) × (session.new ≡ session.old) }
     ensures answers { (entry ≢ End) → (a : Account Ternary) → StandsFor session.old a → (b : Account Ternary) × Gives (machine_in session.old) a entry (numbered result) b × StandsFor session.new b }
 {

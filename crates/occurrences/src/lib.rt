@@ -6,13 +6,19 @@ ghost use Rattle.occurrences.specs.Items.{Last, Before};
 
 use std::marker::Model;
 
+// How many places a list has.
+pub const PLACES: usize = 1024;
+
+// The greatest item whose places are known.
+const MOST: usize = 1024;
+
 // A list of 1,024 items; of each item, the last place at which it stands; and of each place, the one before it with the same
 // item. Items are numbers up to 1,024; of others no place is known.
 #[derive(Drop)]
 pub struct Occurrences {
-    items: [u32; 1024],
-    last: [Option<u16>; 1025],
-    before: [Option<u16>; 1024],
+    items: [u32; PLACES],
+    last: [Option<u16>; MOST + 1],
+    before: [Option<u16>; PLACES],
 }
 
 impl Model for Occurrences {
@@ -28,14 +34,14 @@ impl Model for Occurrences {
 
 impl Occurrences {
     // Where the items of a list stand.
-    pub fn new(items: [u32; 1024]) -> Occurrences
+    pub fn new(items: [u32; PLACES]) -> Occurrences
         ensures { result ≡ items }
     {
-        let mut last = [None; 1025];
-        let mut before = [None; 1024];
-        for place in 0..1024 {
+        let mut last = [None; MOST + 1];
+        let mut before = [None; PLACES];
+        for place in 0..PLACES {
             let item = items[place] as usize;
-            if item <= 1024 {
+            if item <= MOST {
                 before[place] = last[item];
                 last[item] = Some(place as u16);
             }

@@ -10,14 +10,20 @@ use std::marker::Model;
 // A key of this size is none.
 pub const NO_KEY: u32 = u32::MAX;
 
+// How many places there are.
+pub const PLACES: usize = 1024;
+
+// How many of them are in a block.
 const BLOCK: usize = 32;
+
+const BLOCKS: usize = PLACES / BLOCK;
 
 // The keys, cut into blocks, and of each block the lowest key. So a change, and the search for the lowest of all, looks at
 // some dozens of keys, however many there are.
 #[derive(Drop)]
 pub struct Queue {
-    keys: [u32; 1024],
-    lowest: [u32; 32],
+    keys: [u32; PLACES],
+    lowest: [u32; BLOCKS],
 }
 
 impl Model for Queue {
@@ -43,7 +49,7 @@ fn lowest(keys: &[u32]) -> u32
 }
 
 // The keys of a block.
-fn keys_of(keys: &[u32; 1024], block: usize) -> &[u32]
+fn keys_of(keys: &[u32; PLACES], block: usize) -> &[u32]
     requires { block < 32 }
     ensures { result.now ≡ keys_in keys.now block }
 {
@@ -59,11 +65,11 @@ fn place_of(keys: &[u32], key: u32) -> Option<usize>
 
 impl Queue {
     // A queue with these keys.
-    pub fn new(keys: [u32; 1024]) -> Queue
+    pub fn new(keys: [u32; PLACES]) -> Queue
         ensures { result ≡ keys }
     {
-        let mut lowest_keys = [NO_KEY; 32];
-        for block in 0..32 {
+        let mut lowest_keys = [NO_KEY; BLOCKS];
+        for block in 0..BLOCKS {
             lowest_keys[block] = lowest(keys_of(&keys, block));
         }
         Queue {

@@ -1,10 +1,10 @@
 // A job as a session does it.
 use crate::job::Job;
 use crate::narrator::Narrator;
-use crate::source::MOST_BYTES;
 use crate::stop::Stop;
 use deck::fault::{Fault, Layer};
 use engine::session::{Ending, Ran, Session};
+use listing::lister::MOST_BYTES;
 use netlist::refusal::Refusal;
 use std::io;
 use stimulus::entry::{Entry, Taken};

@@ -1,10 +1,10 @@
 // A job: a netlist, and what its inputs are given.
 use crate::narrator::Narrator;
-use crate::source::MOST_BYTES;
 use crate::stop::Stop;
 use deck::closing::{check_reached, read_netlist};
 use deck::entry::{Entry, Taken};
 use deck::reader::DeckReader;
+use listing::lister::MOST_BYTES;
 use netlist::closed::Netlist;
 use netlist::draft::Draft;
 use std::io;

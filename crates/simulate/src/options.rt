@@ -1,5 +1,6 @@
 // The options that the program is called with.
 use crate::stop::Stop;
+use listing::lister::RECORDS;
 use std::alloc::AllocError;
 use std::rt::Runtime;
 use std::{env, fmt, io};
@@ -23,8 +24,6 @@ does not.
 ";
 
 const MOST_RECORDS: usize = 1_048_576;
-
-const RECORDS: usize = 4_096;
 
 // The word that stands for standard input where a file is named.
 pub const STANDARD: &str = "-";

@@ -1,14 +1,12 @@
 // Where the deck and its stimulus come from.
 use crate::options::{Options, STANDARD};
 use crate::stop::Stop;
+use listing::lister::MOST_BYTES;
 use std::alloc::Global;
 use std::fs::File;
 use std::io;
 use std::io::Read;
 use std::rt::Runtime;
-
-// What lies beyond is not read.
-pub const MOST_BYTES: usize = 32_768;
 
 // The bytes of a deck and its stimulus, and whether more follow, which are not read.
 #[derive(Drop)]

@@ -84,7 +84,7 @@ impl<'a> StimulusReader<'a> {
     // Takes the next record; there is none once the end was taken and no byte follows. A fault alters nothing.
     pub fn next(&mut self) -> Result<Option<Taken>, Fault>
         ensures answers { Outcome (place self.old) (answer_of result) (place self.new) }
-        ensures refused { OnErr result (self.new ≡ self.old) }
+        ensures refused_alters_nothing { OnErr result (self.new ≡ self.old) }
         ensures only { (a : Result (Option Taken) Told) (p : Place) → Outcome (place self.old) a p → (a ≡ answer_of result) × (p ≡ place self.new) }
     {
         if self.phase == Phase::Done && self.rest.is_empty() {

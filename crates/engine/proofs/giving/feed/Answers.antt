@@ -44,7 +44,7 @@ returns-in_default-record-clause-answers g c a h =
     let over = overflows meaning system p c.args.store.now a (sure l) h n t found.0 not_past (meaning c.args.value) g.V.Element.Alike told.alike_is_same c.record.new.store told.only_there c.requires kept_fits c.args.value refl c.record.result c.in_default-record.is told.fits told.recorded in (
       a,
       Feeding.full found.0 not_past in_time (feed_refused meaning system p c.args.store.now a (sure l) h n t found.0 not_past (meaning c.args.value) over),
-      subst (λ st. Stands meaning system p st a) (sym (told.refused c.in_default-record.is)) h,
+      subst (λ st. Stands meaning system p st a) (sym (told.refused_alters_nothing c.in_default-record.is)) h,
     )
 
 pub returns-clause-keeps : goal.returns-clause-keeps

@@ -28,4 +28,5 @@ returns-clause-dropped g c =
     let kept : c.progress-kept.result.kept ≡ ((panel l).progress n).kept = ap (λ (x : Progress). x.kept) c.progress-kept.ensures in
     subst (DroppedIn t filler ((panel l).progress n).kept (part stride n store) c.drop_in.result) (sym (wrote_part stride n at store new c.place-place.ensures.begins (omega arith) c.drop_in.ensures.same_length))
     (subst (λ k. DroppedIn t filler k (part stride n store) c.drop_in.result new) kept
-    (subst (λ old. DroppedIn t filler c.progress-kept.result.kept old c.drop_in.result new) (lent stride n at store new c.place-place.ensures.begins (omega arith) c.drop_in.ensures.same_length) (subst (λ v. DroppedIn t (record { tick = 0; value = v }) c.progress-kept.result.kept (take (at + stride - at) (drop at store)) c.drop_in.result new) c.START.ensures c.drop_in.ensures.dropped)))
+    (subst (λ old. DroppedIn t filler c.progress-kept.result.kept old c.drop_in.result new) (lent stride n at store new c.place-place.ensures.begins (omega arith) c.drop_in.ensures.same_length) (subst (λ v. DroppedIn t (record { tick = 0; value = v }) c.progress-kept.result.kept (take (at + stride - at) (drop at store)) c.drop_in.result new) c.START.ensures
+    (subst (λ f. DroppedIn t f c.progress-kept.result.kept (take (at + stride - at) (drop at store)) c.drop_in.result new) c.at_start-filler.ensures c.drop_in.ensures.dropped))))

@@ -17,8 +17,8 @@ returns-clause-only_there g c =
     let holds = c.requires.holds in
     wrote_there c.args.lines.now.stride c.args.line c.place-place.result c.args.store.now c.record_in.new.part c.place-place.ensures.begins (omega arith) c.record_in.ensures.same_length
 
-pub returns-clause-refused : goal.returns-clause-refused
-returns-clause-refused g c none =
+pub returns-clause-refused_alters_nothing : goal.returns-clause-refused_alters_nothing
+returns-clause-refused_alters_nothing g c none =
     let stride = c.args.lines.now.stride in
     let n = c.args.line in
     let at = c.place-place.result in

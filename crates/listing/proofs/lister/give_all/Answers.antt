@@ -40,7 +40,7 @@ returns-in_err-taken-clause-answers c a stands =
     (stop.0, stop.1, carried c.from_residual.result f _ _ c.from_residual.ensures.1 stop.2)
 
 pub returns-in-Err-clause-keeps : goal.returns-in-Err-clause-keeps
-returns-in-Err-clause-keeps c = subst (KeepsItsOwn c.args.session.now) (sym c.in-Err.ensures.refused) c.loop-taken.invariant.under.keeps
+returns-in-Err-clause-keeps c = subst (KeepsItsOwn c.args.session.now) (sym c.in-Err.ensures.refused_alters_nothing) c.loop-taken.invariant.under.keeps
 
 pub returns-in-Err-clause-answers : goal.returns-in-Err-clause-answers
 returns-in-Err-clause-answers c a stands =
@@ -48,7 +48,7 @@ returns-in-Err-clause-answers c a stands =
     let no_end : c.in-Some.taken.entry ≡ End → ⊥ = λ is. let both = (c.in-Err.ensures.ends is).0 in cc in
     refused c.args.session.now c.args.stimulus.now c.args.first c.loop-taken.session (place c.loop-taken.reader) c.loop-taken.invariant (place c.next.new.self) c.in-Some.taken took c.give.new.session (number c.in-Err.refusal)
     (record { refusal = c.in-Err.refusal; layer = Layer.Session; «record» = c.in-Some.taken.«record»; column = 1 })
-    (ap (λ n. record { number = number c.in-Err.refusal; layer = 83; at = n; column = 1 }) took.number) no_end c.in-Err.ensures.refused (c.in-Err.ensures.answers no_end) a stands
+    (ap (λ n. record { number = number c.in-Err.refusal; layer = 83; at = n; column = 1 }) took.number) no_end c.in-Err.ensures.refused_alters_nothing (c.in-Err.ensures.answers no_end) a stands
 
 pub returns-clause-keeps : goal.returns-clause-keeps
 returns-clause-keeps c = c.loop-taken.invariant.under.keeps

@@ -3,8 +3,8 @@ use Rattle.engine.specs.Sessions.{machine_in}
 use Rattle.engine.proofs.Sessions.{untouched, nothing_given, none_fed}
 use Rattle.engine.proofs.session.Session.feed.Goals as goal
 
-pub returns-clause-refused : goal.returns-clause-refused
-returns-clause-refused g c = untouched c.feed.result c.args.self.now _ c.feed.new.store refl c.feed.ensures.refused
+pub returns-clause-refused_alters_nothing : goal.returns-clause-refused_alters_nothing
+returns-clause-refused_alters_nothing g c = untouched c.feed.result c.args.self.now _ c.feed.new.store refl c.feed.ensures.refused_alters_nothing
 
 pub returns-clause-without_lines : goal.returns-clause-without_lines
 returns-clause-without_lines g c none =

@@ -53,6 +53,28 @@ fn limits_of_a_netlist(rt: HostRuntime) {
 }
 
 #[test]
+fn draft_outside_the_limits_is_dead(rt: HostRuntime) -> Result<(), Fail> {
+    let table = [
+        (1, 1, 1, Ok(())),
+        (0, 1, 1, Err(Refusal::OutOfOrder)),
+        (257, 1, 1, Err(Refusal::OutOfOrder)),
+        (1, 0, 1, Err(Refusal::OutOfOrder)),
+        (1, 769, 1, Err(Refusal::OutOfOrder)),
+        (1, 1, 0, Err(Refusal::OutOfOrder)),
+        (1, 1, 257, Err(Refusal::OutOfOrder)),
+    ];
+    for (inputs, gates, outputs, answer) in table {
+        let mut draft = Draft::new(rt.alloc(), inputs, gates, outputs);
+        assert_eq!(rt;
+            draft.add_gate(rt.alloc(), Function::Not, 1, &[1])?,
+            answer,
+            "{inputs} inputs, {gates} gates, {outputs} outputs"
+        );
+    }
+    Ok(())
+}
+
+#[test]
 fn lines_that_gates_read(rt: HostRuntime) {
     for count in 0..6usize {
         assert_eq!(rt; Function::Buf.takes(count), count == 1, "BUF of {count}");

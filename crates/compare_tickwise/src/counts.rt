@@ -53,9 +53,15 @@ pub struct Counts {
     pub untouched: u64,
     pub stores: u64,
     pub again: u64,
-    // Stores that were not the same, as they must not be.
+    // Stores compared before all calls were done again: those that were the same, and those that were not.
+    pub like: u64,
     pub unlike: u64,
+    // Values that are tied to bits, and that are not; those that are not told, and of these the ones that both sessions refuse,
+    // each with another number.
     pub tied: u64,
+    pub untied: u64,
+    pub untold: u64,
+    pub apart: u64,
 }
 
 impl Counts {

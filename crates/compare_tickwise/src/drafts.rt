@@ -1,5 +1,5 @@
 // A netlist drawn in both simulators, addition by addition.
-use crate::answer::{Answer, Asked, engine_answer, tickwise_answer};
+use crate::answer::{Answer, Asked, done_or_refused};
 use crate::call::Name;
 use crate::drawing::{draw_bad_gate, draw_gate, draw_no_line};
 use crate::kinds::kind_of;
@@ -45,9 +45,9 @@ impl Drafts {
             gates,
             outputs,
         };
-        let answer = engine_answer(Draft::limits(size));
+        let answer = done_or_refused(Draft::limits(size));
         let expected = tickwise::draft::Draft::limits(inputs, gates, outputs);
-        compare(Asked::Limits, answer, tickwise_answer(expected))?;
+        compare(Asked::Limits, answer, done_or_refused(expected))?;
         trial.counts.note(Name::Limits, answer);
         Ok(Drafts {
             engine: Draft::new(size),
@@ -63,7 +63,7 @@ impl Drafts {
             reads,
         } = gate;
         let kind = kind_of(*function);
-        let answer = engine_answer(self.engine.add_gate(kind, *delay, reads));
+        let answer = done_or_refused(self.engine.add_gate(kind, *delay, reads));
         let expected = self
             .tickwise
             .add_gate(trial.alloc, *function, *delay, reads)?;
@@ -71,20 +71,20 @@ impl Drafts {
         compare(
             Asked::AddGate(self.additions),
             answer,
-            tickwise_answer(expected),
+            done_or_refused(expected),
         )?;
         trial.counts.note(Name::AddGate, answer);
         Ok(())
     }
 
     fn add_output(&mut self, trial: &mut Trial, line: u32) -> Result<(), Stop> {
-        let answer = engine_answer(self.engine.add_output(line));
+        let answer = done_or_refused(self.engine.add_output(line));
         let expected = self.tickwise.add_output(line)?;
         self.additions = self.additions.saturating_add(1);
         compare(
             Asked::AddOutput(self.additions),
             answer,
-            tickwise_answer(expected),
+            done_or_refused(expected),
         )?;
         trial.counts.note(Name::AddOutput, answer);
         Ok(())
@@ -158,8 +158,8 @@ impl Drafts {
         let expected = self.tickwise.judge(alloc)?;
         compare(
             Asked::Judging,
-            engine_answer(self.engine.judge()),
-            tickwise_answer(expected),
+            done_or_refused(self.engine.judge()),
+            done_or_refused(expected),
         )?;
         let expected = self.tickwise.unreached(alloc)?;
         compare(
@@ -177,9 +177,9 @@ impl Drafts {
             tickwise,
             ..
         } = self;
-        let expected = tickwise_answer(tickwise.judge(trial.alloc)?);
+        let expected = done_or_refused(tickwise.judge(trial.alloc)?);
         let (answer, netlist) = engine.close();
-        let answer = engine_answer(answer);
+        let answer = done_or_refused(answer);
         compare(Asked::Closing, answer, expected)?;
         trial.counts.note(Name::Close, answer);
         Ok(Closed {

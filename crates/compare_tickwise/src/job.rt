@@ -1,10 +1,10 @@
 // A job at random in both simulators.
-use crate::again::do_again;
-use crate::answer::{Answer, Asked, engine_answer, tickwise_answer};
+use crate::again::{do_again, redraw};
+use crate::answer::{Answer, Asked, done_or_refused};
 use crate::call::{Call, Name};
 use crate::choice::draw_call;
 use crate::counts::count;
-use crate::level::{Level, Spelled, System};
+use crate::level::{Level, Spelled, System, values_of};
 use crate::netlists::netlist_of;
 use crate::pair::Pair;
 use crate::random::Random;
@@ -17,13 +17,14 @@ use crate::trial::Trial;
 use engine::session::Session;
 use netlist::closed::Netlist;
 use tickwise::circuit::Circuit;
+use tickwise::refusal::Refusal;
 use tickwise::value::Value;
 
 // How many calls are made of a session without lines.
 const FEW_CALLS: u32 = 12;
 
-// The refusal of taking a gate whose line is full.
-const FULL: u8 = 16;
+// Below how many calls of a job are still to be done again when stores are compared.
+const LAST_CALLS: u32 = 6;
 
 // How many records a store has: for a few changes of each line or for more, with some left over; now and then too few.
 fn draw_records(random: &mut Random, pace: Pace, lines: u32) -> usize {
@@ -54,14 +55,6 @@ fn draw_starts(trial: &mut Trial, system: System, inputs: usize) -> Result<Vec<L
     Ok(starts)
 }
 
-fn spelled<V: Spelled>(trial: &Trial, levels: &[Level]) -> Result<Vec<V>, Stop> {
-    let mut values = Vec::new(trial.alloc);
-    for level in levels {
-        values.push(V::of(*level))?;
-    }
-    Ok(values)
-}
-
 // Makes calls at random, and now and then asks for all that can be asked.
 fn make_calls<V: Related, R: Value + Spelled>(
     trial: &mut Trial,
@@ -81,8 +74,68 @@ fn make_calls<V: Related, R: Value + Spelled>(
     Ok(())
 }
 
-// Does the job of a session again in another store, and compares both: when the other is made, and when it was given the same
-// and rests.
+// How many records another store of the same room has: as many shares, and some left over.
+fn draw_like_records(random: &mut Random, records: usize, lines: u32) -> usize {
+    let lines = lines as usize;
+    let rest = records.checked_rem(lines).unwrap_or(0);
+    let spare = random.below(u32::try_from(lines).unwrap_or(0)) as usize;
+    records.saturating_sub(rest).saturating_add(spare)
+}
+
+// Whether two sessions must have equal stores is told by their tables.
+fn compare_same<V: Related, R: Value + Spelled>(
+    pair: &Pair<V, R>,
+    again: &Pair<V, R>,
+) -> Result<bool, Stop> {
+    let same = same_stores(&again.tickwise, &pair.tickwise)?;
+    let answer = Answer::Truth(pair.engine.same_store(&again.engine));
+    compare(Asked::SameStore, answer, Answer::Truth(same))?;
+    Ok(same)
+}
+
+// Compares two stores before the last calls that alter one of them.
+fn compare_unlike<V: Related, R: Value + Spelled>(
+    trial: &mut Trial,
+    pair: &Pair<V, R>,
+    again: &Pair<V, R>,
+) -> Result<(), Stop> {
+    if compare_same(pair, again)? {
+        count(&mut trial.counts.like);
+    } else {
+        count(&mut trial.counts.unlike);
+    }
+    Ok(())
+}
+
+// Does a log again. The stores are compared when the other session is made, at some place near the end, and when it was given
+// the same and rests: then they must be the same.
+fn do_and_compare<V: Related, R: Value + Spelled>(
+    trial: &mut Trial,
+    pair: &Pair<V, R>,
+    again: &mut Pair<V, R>,
+    log: &[Call],
+) -> Result<(), Stop> {
+    compare_unlike(trial, pair, again)?;
+    let last = trial.random.below(LAST_CALLS) as usize;
+    let (earlier, later) = log.split_at(log.len().saturating_sub(last));
+    do_again(trial, again, earlier)?;
+    compare_unlike(trial, pair, again)?;
+    do_again(trial, again, later)?;
+    again.ask(Call::RunToRest)?;
+    let same = compare_same(pair, again)?;
+    compare(Asked::SameStore, Answer::Truth(same), Answer::Truth(true))
+}
+
+// How far all lines are settled at rest, and how many of their changes are kept.
+fn compare_states<V: Related, R: Value + Spelled>(pair: &mut Pair<V, R>) -> Result<(), Stop> {
+    pair.ask(Call::AtRest)?;
+    for line in 1..=pair.tickwise.circuit().lines() {
+        pair.ask(Call::State(line))?;
+    }
+    Ok(())
+}
+
+// Does the job of a session again in another store, cut and ordered otherwise, and compares both.
 fn compare_again<V: Related, R: Value + Spelled>(
     trial: &mut Trial,
     pair: &Pair<V, R>,
@@ -90,22 +143,28 @@ fn compare_again<V: Related, R: Value + Spelled>(
     records: usize,
     job: Job,
 ) -> Result<(), Stop> {
+    let records = draw_like_records(&mut trial.random, records, job.circuit.lines());
     let mut store = blank::<V>(trial, system, records)?;
-    let starts = spelled::<V>(trial, job.starts)?;
-    let mut again = Session::make(netlist_of(job.circuit)?, &mut store, &starts);
-    let starts = spelled::<R>(trial, job.starts)?;
-    let made = tickwise::session::Session::make(trial.alloc, job.circuit, records, &starts)?;
-    let same = same_stores(&made, &pair.tickwise)?;
-    let answer = Answer::Truth(pair.engine.same_store(&again));
-    compare(Asked::SameStore, answer, Answer::Truth(same))?;
-    if !same {
-        count(&mut trial.counts.unlike);
-    }
-    do_again(trial, &mut again, job.log)?;
-    let same = Answer::Truth(pair.engine.same_store(&again));
-    compare(Asked::SameStore, same, Answer::Truth(true))?;
+    let starts = values_of::<V>(trial.alloc, job.starts)?;
+    let table_starts = values_of::<R>(trial.alloc, job.starts)?;
+    let mut again = Pair {
+        engine: Session::make(netlist_of(job.circuit)?, &mut store, &starts),
+        tickwise: tickwise::session::Session::make(
+            trial.alloc,
+            job.circuit,
+            records,
+            &table_starts,
+        )?,
+        log: Vec::new(trial.alloc),
+        calls: 0,
+    };
+    let log = redraw(trial, job.log)?;
+    do_and_compare(trial, pair, &mut again, &log)?;
+    compare_states(&mut again)?;
+    let expected = again.tickwise.store()?;
+    drop(again);
     count(&mut trial.counts.again);
-    Ok(())
+    compare_store(trial, system, &store, &expected)
 }
 
 // Whether two sessions on tables must have equal stores.
@@ -130,7 +189,7 @@ fn compare_full<V: Related, R: Value + Spelled>(
 ) -> Result<(), Stop> {
     let is_full = pair.tickwise.is_full(line);
     let answer = pair.ask(Call::Take(line))?;
-    let answer = Answer::Truth(answer == Answer::Refused(FULL));
+    let answer = Answer::Truth(answer == Answer::Refused(Refusal::Full.number()));
     compare(Asked::Full(line), answer, Answer::Truth(is_full))?;
     if is_full {
         count(&mut trial.counts.full);
@@ -169,11 +228,11 @@ fn check<V: Related, R: Value + Spelled>(
     netlist: &Netlist,
 ) -> Result<Answer, Stop> {
     let store = blank::<V>(trial, desk.system, desk.records)?;
-    let starts = spelled::<V>(trial, &desk.starts)?;
-    let answer = engine_answer(Session::check(netlist, &store, &starts));
-    let starts = spelled::<R>(trial, &desk.starts)?;
+    let starts = values_of::<V>(trial.alloc, &desk.starts)?;
+    let answer = done_or_refused(Session::check(netlist, &store, &starts));
+    let starts = values_of::<R>(trial.alloc, &desk.starts)?;
     let expected = tickwise::session::Session::check(desk.circuit, desk.records, &starts);
-    compare(Asked::Making, answer, tickwise_answer(expected))?;
+    compare(Asked::Making, answer, done_or_refused(expected))?;
     trial.counts.note(Name::Make, answer);
     Ok(answer)
 }
@@ -190,7 +249,7 @@ fn compare_others<V: Related, R: Value + Spelled>(
         log: &pair.log,
     };
     compare_again(trial, pair, desk.system, desk.records, job)?;
-    V::compare_related(trial, &pair.engine, job)
+    V::compare_related(trial, pair, job)
 }
 
 // Does a job in a session with lines.
@@ -217,8 +276,8 @@ fn work<V: Related, R: Value + Spelled>(
     let nothing = Circuit::empty(trial.alloc);
     let circuit = if made { desk.circuit } else { &nothing };
     let mut store = blank::<V>(trial, desk.system, desk.records)?;
-    let starts = spelled::<V>(trial, &desk.starts)?;
-    let expected_starts = spelled::<R>(trial, &desk.starts)?;
+    let starts = values_of::<V>(trial.alloc, &desk.starts)?;
+    let expected_starts = values_of::<R>(trial.alloc, &desk.starts)?;
     let mut pair = Pair {
         engine: Session::make(netlist, &mut store, &starts),
         tickwise: tickwise::session::Session::make(

@@ -23,6 +23,7 @@ mod shape;
 mod stop;
 mod stores;
 mod survey;
+mod tie;
 mod trial;
 
 use crate::answer::{Answer, Difference};

@@ -1,5 +1,5 @@
 // A closed netlist compared with its circuit.
-use crate::answer::{Answer, Asked, engine_answer};
+use crate::answer::{Answer, Asked, done_or_refused};
 use crate::counts::{Counts, count};
 use crate::kinds::kind_of;
 use crate::shape::MOST_DELAY;
@@ -121,13 +121,13 @@ pub fn netlist_of(circuit: &Circuit) -> Result<Netlist, Stop> {
     });
     for gate in &circuit.gates {
         let added = draft.add_gate(kind_of(gate.function), gate.delay, &gate.reads);
-        compare(Asked::AddGate(0), engine_answer(added), Answer::Done)?;
+        compare(Asked::AddGate(0), done_or_refused(added), Answer::Done)?;
     }
     for line in &circuit.outputs {
         let added = draft.add_output(*line);
-        compare(Asked::AddOutput(0), engine_answer(added), Answer::Done)?;
+        compare(Asked::AddOutput(0), done_or_refused(added), Answer::Done)?;
     }
     let (answer, netlist) = draft.close();
-    compare(Asked::Closing, engine_answer(answer), Answer::Done)?;
+    compare(Asked::Closing, done_or_refused(answer), Answer::Done)?;
     Ok(netlist)
 }

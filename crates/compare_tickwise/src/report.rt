@@ -71,20 +71,36 @@ fn tell_compared(rt: &impl Print, counts: &Counts) -> io::Result<()> {
         stores,
         records,
         untouched,
-        again,
-        unlike,
-        tied,
         ..
     } = counts;
-    println!(rt; "  {stores} stores of {records} records, {untouched} of them beyond the lines")?;
+    println!(rt; "  {stores} stores of {records} records, {untouched} of them beyond the lines")
+}
+
+fn tell_others(rt: &impl Print, counts: &Counts) -> io::Result<()> {
+    let Counts {
+        again,
+        like,
+        unlike,
+        ..
+    } = counts;
     println!(rt;
-        "  {again} jobs done again, {unlike} stores before that not the same, {tied} values tied to bits"
-    )
+        "{again} jobs done again; before the end {like} stores were the same, and {unlike} were not"
+    )?;
+    let Counts {
+        tied,
+        untied,
+        untold,
+        apart,
+        ..
+    } = counts;
+    println!(rt; "with bits: {tied} values tied, {untied} not tied, {untold} not told")?;
+    println!(rt; "  {apart} of the last were refused by both sessions, for two reasons")
 }
 
 pub fn tell(rt: &impl Print, counts: &Counts) -> io::Result<()> {
     tell_sessions(rt, counts)?;
     tell_gates(rt, counts)?;
     tell_calls(rt, counts)?;
-    tell_compared(rt, counts)
+    tell_compared(rt, counts)?;
+    tell_others(rt, counts)
 }

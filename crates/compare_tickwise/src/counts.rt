@@ -43,6 +43,12 @@ pub struct Counts {
     pub slowest: u64,
     pub looped: u64,
     pub reading_themselves: u64,
+    // Netlists compared once more after the calls of their sessions, and drafts compared after an addition.
+    pub kept_netlists: u64,
+    pub drafts: u64,
+    // Closed netlists with more than 64 lines, and with more than 256.
+    pub wide: u64,
+    pub widest: u64,
     pub tallies: [Tally; 14],
     // Lines that were full at the end.
     pub full: u64,

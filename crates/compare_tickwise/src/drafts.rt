@@ -1,7 +1,9 @@
 // A netlist drawn in both simulators, addition by addition.
 use crate::answer::{Answer, Asked, done_or_refused};
 use crate::call::Name;
+use crate::counts::count;
 use crate::drawing::{draw_bad_gate, draw_gate, draw_no_line};
+use crate::filled::Filled;
 use crate::kinds::kind_of;
 use crate::shape::Shape;
 use crate::stop::{Stop, compare};
@@ -15,11 +17,12 @@ use tickwise::circuit::{Circuit, Gate};
 // How many gates or outputs are tried of a draft that was opened outside the limits.
 const FEW: usize = 2;
 
-// Both drafts, and how many additions were tried.
+// Both drafts, what was accepted of them, and how many additions were tried.
 #[derive(Drop)]
 pub struct Drafts {
     engine: Draft,
     tickwise: tickwise::draft::Draft,
+    filled: Filled,
     additions: usize,
 }
 
@@ -29,6 +32,58 @@ pub struct Closed {
     pub answer: Answer,
     pub netlist: Netlist,
     pub circuit: Circuit,
+}
+
+// The greatest numbers that are accepted, and those that are refused beside them.
+const EDGES: [Size; 5] = [
+    Size {
+        inputs: 256,
+        gates: 768,
+        outputs: 256,
+    },
+    Size {
+        inputs: 1,
+        gates: 1,
+        outputs: 1,
+    },
+    Size {
+        inputs: 257,
+        gates: 768,
+        outputs: 256,
+    },
+    Size {
+        inputs: 256,
+        gates: 769,
+        outputs: 256,
+    },
+    Size {
+        inputs: 256,
+        gates: 768,
+        outputs: 257,
+    },
+];
+
+// Asks for the limits alone.
+fn compare_limits(trial: &mut Trial, size: Size) -> Result<Answer, Stop> {
+    let Size {
+        inputs,
+        gates,
+        outputs,
+    } = size;
+    let answer = done_or_refused(Draft::limits(size));
+    let expected = tickwise::draft::Draft::limits(inputs, gates, outputs);
+    compare(Asked::Limits, answer, done_or_refused(expected))?;
+    trial.counts.note(Name::Limits, answer);
+    Ok(answer)
+}
+
+// Now and then asks for limits at their edges.
+pub fn try_edges(trial: &mut Trial) -> Result<(), Stop> {
+    if trial.random.one_in(12) {
+        let size = trial.random.pick(Size::default(), &EDGES);
+        compare_limits(trial, size)?;
+    }
+    Ok(())
 }
 
 impl Drafts {
@@ -45,15 +100,20 @@ impl Drafts {
             gates,
             outputs,
         };
-        let answer = done_or_refused(Draft::limits(size));
-        let expected = tickwise::draft::Draft::limits(inputs, gates, outputs);
-        compare(Asked::Limits, answer, done_or_refused(expected))?;
-        trial.counts.note(Name::Limits, answer);
+        let is_within = compare_limits(trial, size)? == Answer::Done;
         Ok(Drafts {
             engine: Draft::new(size),
             tickwise: tickwise::draft::Draft::new(trial.alloc, inputs, gates, outputs),
+            filled: Filled::new(size, is_within),
             additions: 0,
         })
+    }
+
+    // Compares how far the draft is filled with what was accepted.
+    fn compare_filled(&self, trial: &mut Trial) -> Result<(), Stop> {
+        self.filled.compare(&self.engine)?;
+        count(&mut trial.counts.drafts);
+        Ok(())
     }
 
     fn add_gate(&mut self, trial: &mut Trial, gate: &Gate) -> Result<(), Stop> {
@@ -74,7 +134,10 @@ impl Drafts {
             done_or_refused(expected),
         )?;
         trial.counts.note(Name::AddGate, answer);
-        Ok(())
+        if answer == Answer::Done {
+            self.filled.note_gate();
+        }
+        self.compare_filled(trial)
     }
 
     fn add_output(&mut self, trial: &mut Trial, line: u32) -> Result<(), Stop> {
@@ -87,7 +150,10 @@ impl Drafts {
             done_or_refused(expected),
         )?;
         trial.counts.note(Name::AddOutput, answer);
-        Ok(())
+        if answer == Answer::Done {
+            self.filled.note_output();
+        }
+        self.compare_filled(trial)
     }
 
     // Sometimes tries an addition that is bad, or out of order.
@@ -132,6 +198,7 @@ impl Drafts {
 
     // Adds what the shape says. Now and then the last gate or output is left out.
     pub fn draw(&mut self, trial: &mut Trial, shape: &Shape) -> Result<(), Stop> {
+        self.compare_filled(trial)?;
         let mut gates = shape.gates;
         let mut outputs = shape.outputs;
         if Draft::limits(Size {

@@ -5,7 +5,7 @@ use crate::call::{Call, Name};
 use crate::choice::draw_call;
 use crate::counts::count;
 use crate::level::{Level, Spelled, System, values_of};
-use crate::netlists::netlist_of;
+use crate::netlists::{compare_netlist, netlist_of};
 use crate::pair::Pair;
 use crate::random::Random;
 use crate::related::{Job, Related};
@@ -23,11 +23,18 @@ use tickwise::value::Value;
 // How many calls are made of a session without lines.
 const FEW_CALLS: u32 = 12;
 
+// How many records a store has at most for a session without lines.
+const FEW_RECORDS: u32 = 12;
+
 // Below how many calls of a job are still to be done again when stores are compared.
 const LAST_CALLS: u32 = 6;
 
-// How many records a store has: for a few changes of each line or for more, with some left over; now and then too few.
+// How many records a store has: for a few changes of each line or for more, with some left over; now and then too few. Where
+// there are no lines, it has some too.
 fn draw_records(random: &mut Random, pace: Pace, lines: u32) -> usize {
+    if lines == 0 {
+        return random.within(0, FEW_RECORDS) as usize;
+    }
     let room = match random.below(24) {
         0 => 0,
         1..12 => random.within(1, 3),
@@ -295,6 +302,8 @@ fn work<V: Related, R: Value + Spelled>(
         make_calls(trial, &mut pair, desk.system, desk.pace, FEW_CALLS)?;
         survey(trial, &mut pair)?;
     }
+    compare_netlist(trial.alloc, pair.engine.netlist(), circuit)?;
+    count(&mut trial.counts.kept_netlists);
     let expected = pair.tickwise.store()?;
     drop(pair);
     compare_store(trial, desk.system, &store, &expected)

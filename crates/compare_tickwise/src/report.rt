@@ -34,7 +34,9 @@ fn tell_gates(rt: &impl Print, counts: &Counts) -> io::Result<()> {
         ..
     } = counts;
     println!(rt; "; {looped} looped, {reading_themselves} read themselves")?;
-    println!(rt; "  with delays of 100 and more: {slow}; of 65535: {slowest}")
+    println!(rt; "  with delays of 100 and more: {slow}; of 65535: {slowest}")?;
+    let Counts { wide, widest, .. } = counts;
+    println!(rt; "  {wide} netlists of more than 64 lines, {widest} of these of more than 256")
 }
 
 fn tell_tally(rt: &impl Print, name: Name, tally: &Tally) -> io::Result<()> {
@@ -73,7 +75,13 @@ fn tell_compared(rt: &impl Print, counts: &Counts) -> io::Result<()> {
         untouched,
         ..
     } = counts;
-    println!(rt; "  {stores} stores of {records} records, {untouched} of them beyond the lines")
+    println!(rt; "  {stores} stores of {records} records, {untouched} of them beyond the lines")?;
+    let Counts {
+        drafts,
+        kept_netlists,
+        ..
+    } = counts;
+    println!(rt; "  {drafts} drafts between additions, {kept_netlists} netlists after all calls")
 }
 
 fn tell_others(rt: &impl Print, counts: &Counts) -> io::Result<()> {

@@ -1,7 +1,7 @@
 // Gates at random, good ones and bad ones.
 use crate::kinds::FUNCTIONS;
 use crate::random::Random;
-use crate::shape::Shape;
+use crate::shape::{Pace, Shape};
 use crate::trial::Trial;
 use std::alloc::AllocError;
 use tickwise::circuit::{Function, Gate};
@@ -33,6 +33,12 @@ fn draw_earlier(random: &mut Random, line: u32) -> u32 {
     random.within(1, line.saturating_sub(1).max(1))
 }
 
+// Whether one of the lines that a gate reads is surely before its own: almost always, and always where there are many gates, so
+// that not most netlists of many have one that no input reaches.
+fn is_earlier(random: &mut Random, pace: Pace) -> bool {
+    pace == Pace::Wide || !random.one_in(25)
+}
+
 fn draw_reads(
     trial: &mut Trial,
     shape: &Shape,
@@ -42,7 +48,7 @@ fn draw_reads(
     let earlier = trial.random.below(count);
     let mut reads = Vec::new(trial.alloc);
     for place in 0..count {
-        if place == earlier && !trial.random.one_in(25) {
+        if place == earlier && is_earlier(&mut trial.random, shape.pace) {
             reads.push(draw_earlier(&mut trial.random, line))?;
         } else {
             reads.push(draw_read(&mut trial.random, shape, line))?;

@@ -26,6 +26,12 @@ const FEW_CALLS: u32 = 12;
 // How many records a store has at most for a session without lines.
 const FEW_RECORDS: u32 = 12;
 
+// Below which tick each input is given a value where there are many.
+const FIRST_TICKS: u32 = 12;
+
+// After how many takes of a job that is done again stores are compared at most.
+const MOST_TAKES: u32 = 24;
+
 // Below how many calls of a job are still to be done again when stores are compared.
 const LAST_CALLS: u32 = 6;
 
@@ -114,8 +120,25 @@ fn compare_unlike<V: Related, R: Value + Spelled>(
     Ok(())
 }
 
-// Does a log again. The stores are compared when the other session is made, at some place near the end, and when it was given
-// the same and rests: then they must be the same.
+// Runs a session take by take, and compares its store with the other one after each, so that there are stores which differ in
+// few records.
+fn compare_takes<V: Related, R: Value + Spelled>(
+    trial: &mut Trial,
+    pair: &Pair<V, R>,
+    again: &mut Pair<V, R>,
+) -> Result<(), Stop> {
+    for _take in 0..MOST_TAKES {
+        compare_unlike(trial, pair, again)?;
+        if again.ask(Call::AtRest)? == Answer::Truth(true) {
+            break;
+        }
+        again.ask(Call::Run(1))?;
+    }
+    Ok(())
+}
+
+// Does a log again. The stores are compared when the other session is made, at some place near the end, before the last takes,
+// and when it was given the same and rests: then they must be the same.
 fn do_and_compare<V: Related, R: Value + Spelled>(
     trial: &mut Trial,
     pair: &Pair<V, R>,
@@ -128,6 +151,7 @@ fn do_and_compare<V: Related, R: Value + Spelled>(
     do_again(trial, again, earlier)?;
     compare_unlike(trial, pair, again)?;
     do_again(trial, again, later)?;
+    compare_takes(trial, pair, again)?;
     again.ask(Call::RunToRest)?;
     let same = compare_same(pair, again)?;
     compare(Asked::SameStore, Answer::Truth(same), Answer::Truth(true))
@@ -259,6 +283,24 @@ fn compare_others<V: Related, R: Value + Spelled>(
     V::compare_related(trial, pair, job)
 }
 
+// Gives every input some value, and holds it further. Calls at random do so only where inputs are few.
+fn give_all<V: Related, R: Value + Spelled>(
+    trial: &mut Trial,
+    pair: &mut Pair<V, R>,
+    system: System,
+) -> Result<(), Stop> {
+    for line in 1..=pair.tickwise.circuit().lines() {
+        if pair.tickwise.circuit().is_input(line) {
+            let tick = trial.random.below(FIRST_TICKS);
+            let value = system.draw(&mut trial.random);
+            pair.call(trial, Call::Feed { line, tick, value })?;
+            let tick = trial.random.within(FIRST_TICKS, FIRST_TICKS * 2);
+            pair.call(trial, Call::Hold { line, tick })?;
+        }
+    }
+    Ok(())
+}
+
 // Does a job in a session with lines.
 fn do_job<V: Related, R: Value + Spelled>(
     trial: &mut Trial,
@@ -267,6 +309,9 @@ fn do_job<V: Related, R: Value + Spelled>(
 ) -> Result<(), Stop> {
     trial.counts.note_session(desk.system);
     survey(trial, pair)?;
+    if desk.pace == Pace::Wide {
+        give_all(trial, pair, desk.system)?;
+    }
     let calls = desk.pace.calls(&mut trial.random);
     make_calls(trial, pair, desk.system, desk.pace, calls)?;
     rest(trial, pair)?;

@@ -34,34 +34,12 @@ pub struct Closed {
     pub circuit: Circuit,
 }
 
-// The greatest numbers that are accepted, and those that are refused beside them.
-const EDGES: [Size; 5] = [
-    Size {
-        inputs: 256,
-        gates: 768,
-        outputs: 256,
-    },
-    Size {
-        inputs: 1,
-        gates: 1,
-        outputs: 1,
-    },
-    Size {
-        inputs: 257,
-        gates: 768,
-        outputs: 256,
-    },
-    Size {
-        inputs: 256,
-        gates: 769,
-        outputs: 256,
-    },
-    Size {
-        inputs: 256,
-        gates: 768,
-        outputs: 257,
-    },
-];
+// The greatest numbers that are accepted, the least, and those that are refused beside them.
+const INPUTS: [usize; 4] = [256, 1, 0, 257];
+
+const GATES: [usize; 4] = [768, 1, 0, 769];
+
+const OUTPUTS: [usize; 4] = [256, 1, 0, 257];
 
 // Asks for the limits alone.
 fn compare_limits(trial: &mut Trial, size: Size) -> Result<Answer, Stop> {
@@ -80,7 +58,11 @@ fn compare_limits(trial: &mut Trial, size: Size) -> Result<Answer, Stop> {
 // Now and then asks for limits at their edges.
 pub fn try_edges(trial: &mut Trial) -> Result<(), Stop> {
     if trial.random.one_in(12) {
-        let size = trial.random.pick(Size::default(), &EDGES);
+        let size = Size {
+            inputs: trial.random.pick(256, &INPUTS),
+            gates: trial.random.pick(768, &GATES),
+            outputs: trial.random.pick(256, &OUTPUTS),
+        };
         compare_limits(trial, size)?;
     }
     Ok(())

@@ -18,6 +18,7 @@ mod netlists;
 mod options;
 mod pair;
 mod random;
+mod redone;
 mod related;
 mod report;
 mod shape;

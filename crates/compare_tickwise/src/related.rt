@@ -62,12 +62,40 @@ impl Given {
     }
 }
 
-// A relation as both simulators have it, and which bits are given.
+// How much of a job is done in bits: all of it, only the first of its calls, or all and then more. What more is given is beyond
+// the ends of the first session, so it need not be tied.
+#[derive(Clone, Copy, PartialEq, Eq, Debug)]
+enum Extent {
+    Whole,
+    Less,
+    More,
+}
+
+impl Extent {
+    fn draw(random: &mut Random) -> Extent {
+        match random.below(4) {
+            0 => Extent::Less,
+            1 => Extent::More,
+            _ => Extent::Whole,
+        }
+    }
+
+    // How many calls of a log are made.
+    fn calls(self, random: &mut Random, log: &[Call]) -> usize {
+        match self {
+            Extent::Less => random.below(u32::try_from(log.len()).unwrap_or(0)) as usize,
+            Extent::Whole | Extent::More => log.len(),
+        }
+    }
+}
+
+// A relation as both simulators have it, which bits are given, and how much of the job is done.
 #[derive(Clone, Copy)]
 struct Comparison<L> {
     relation: L,
     tie: Tie,
     given: Given,
+    extent: Extent,
 }
 
 impl<L> Comparison<L> {
@@ -77,17 +105,11 @@ impl<L> Comparison<L> {
     }
 }
 
-// The calls that give inputs their values or trim, with bits in place of the values; sometimes without trims, and sometimes
-// only the first of them.
+// The calls that give inputs their values or trim, with bits in place of the values; sometimes without trims.
 fn bit_log(trial: &mut Trial, log: &[Call], given: Given) -> Result<Vec<Call>, AllocError> {
     let with_trims = trial.random.one_in(2);
-    let calls = if trial.random.one_in(4) {
-        trial.random.below(u32::try_from(log.len()).unwrap_or(0)) as usize
-    } else {
-        log.len()
-    };
     let mut bits = Vec::new(trial.alloc);
-    for call in log.iter().take(calls) {
+    for call in log {
         match *call {
             Call::Feed { line, tick, value } => {
                 let value = given.bit(&mut trial.random, value);
@@ -123,12 +145,18 @@ fn go_on(trial: &mut Trial, bits: &mut Pair<Bit, Two>) -> Result<(), Stop> {
 }
 
 // Does a job in two values. A trim may be refused, since other gates may be full than in the first session.
-fn do_in_bits(trial: &mut Trial, bits: &mut Pair<Bit, Two>, log: &[Call]) -> Result<(), Stop> {
-    for call in log {
+fn do_in_bits(
+    trial: &mut Trial,
+    bits: &mut Pair<Bit, Two>,
+    log: &[Call],
+    extent: Extent,
+) -> Result<(), Stop> {
+    let calls = extent.calls(&mut trial.random, log);
+    for call in log.iter().take(calls) {
         call_again(trial, bits, *call)?;
     }
     bits.ask(Call::RunToRest)?;
-    if trial.random.one_in(3) {
+    if extent == Extent::More {
         go_on(trial, bits)?;
     }
     Ok(())
@@ -253,7 +281,7 @@ fn compare_bits<V: ValueSystem, R: Value + Spelled, L: Relation<V, Bit>>(
         calls: 0,
     };
     let log = bit_log(trial, job.log, comparison.given)?;
-    do_in_bits(trial, &mut bits, &log)?;
+    do_in_bits(trial, &mut bits, &log, comparison.extent)?;
     compare_lines(trial, comparison, first, &bits)
 }
 
@@ -282,11 +310,11 @@ fn compare_by<V: ValueSystem, R: Value + Spelled, L: Relation<V, Bit> + Drop>(
     first: &Pair<V, R>,
     job: Job,
 ) -> Result<(), Stop> {
-    let given = Given::draw(&mut trial.random, tie);
     let comparison = Comparison {
         relation,
         tie,
-        given,
+        given: Given::draw(&mut trial.random, tie),
+        extent: Extent::draw(&mut trial.random),
     };
     compare_bits(trial, &comparison, first, job)?;
     compare_with_none(trial, &comparison, first)

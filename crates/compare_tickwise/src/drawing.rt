@@ -9,6 +9,11 @@ use tickwise::circuit::{Function, Gate};
 // How many lines a gate reads now and then that reads far too many.
 const FAR_TOO_MANY: [u32; 2] = [257, 260];
 
+fn draw_function(random: &mut Random) -> Function {
+    let place = random.below(u32::try_from(FUNCTIONS.len()).unwrap_or(0)) as usize;
+    FUNCTIONS.get(place).copied().unwrap_or(Function::Buf)
+}
+
 // How many lines a gate reads that is no bad one.
 fn fan_in(random: &mut Random, function: Function) -> u32 {
     match function {
@@ -59,7 +64,7 @@ fn draw_reads(
 
 // A gate for a line, which may be added.
 pub fn draw_gate(trial: &mut Trial, shape: &Shape, line: u32) -> Result<Gate, AllocError> {
-    let function = trial.random.pick(Function::Buf, &FUNCTIONS);
+    let function = draw_function(&mut trial.random);
     let count = fan_in(&mut trial.random, function);
     Ok(Gate {
         function,

@@ -1,8 +1,8 @@
 // What both simulators answer, and what they are asked.
 use crate::call::Call;
 use crate::level::Level;
+use crate::tie::Tie;
 use netlist::kind::Kind;
-use netlist::refusal::Refusal;
 use std::fmt;
 
 // A refusal is told by its number.
@@ -45,19 +45,36 @@ impl fmt::Display for Answer {
     }
 }
 
-// What the engine answers to a call that tells nothing else.
-pub fn engine_answer(answer: Result<(), Refusal>) -> Answer {
-    match answer {
-        Ok(()) => Answer::Done,
-        Err(refusal) => Answer::Refused(refusal.number()),
+// The refusals of both simulators.
+pub trait Numbered {
+    fn told(self) -> Answer;
+}
+
+impl Numbered for netlist::refusal::Refusal {
+    fn told(self) -> Answer {
+        Answer::Refused(self.number())
     }
 }
 
-// What tickwise answers to such a call.
-pub fn tickwise_answer(answer: Result<(), tickwise::refusal::Refusal>) -> Answer {
+impl Numbered for tickwise::refusal::Refusal {
+    fn told(self) -> Answer {
+        Answer::Refused(self.number())
+    }
+}
+
+// What is answered to a call that tells nothing else.
+pub fn done_or_refused<E: Numbered + Drop>(answer: Result<(), E>) -> Answer {
     match answer {
         Ok(()) => Answer::Done,
-        Err(refusal) => Answer::Refused(refusal.number()),
+        Err(refusal) => refusal.told(),
+    }
+}
+
+// What is answered to a question of truth that may be refused.
+pub fn truth_or_refused<E: Numbered + Drop>(answer: Result<bool, E>) -> Answer {
+    match answer {
+        Ok(truth) => Answer::Truth(truth),
+        Err(refusal) => refusal.told(),
     }
 }
 
@@ -71,11 +88,17 @@ pub enum Asked {
     Closing,
     Unreached,
     Inputs,
+    Lines,
+    NextLine,
+    TakesGate,
+    TakesOutput,
+    IsComplete,
     Gates,
     Outputs,
     Gate(u32),
     Read { line: u32, place: usize },
     Looped(u32),
+    Marked(u32),
     LoopedLines,
     Output(usize),
     Making,
@@ -85,7 +108,8 @@ pub enum Asked {
     Record(usize),
     SameStore,
     Again(Call),
-    Tied { lane: u8, line: u32, tick: u32 },
+    Tied { tie: Tie, line: u32, tick: u32 },
+    MustBeTied { tie: Tie, line: u32, tick: u32 },
 }
 
 impl fmt::Display for Asked {
@@ -98,11 +122,17 @@ impl fmt::Display for Asked {
             Asked::Closing => f.write_str("closing"),
             Asked::Unreached => f.write_str("the lowest gate that no input reaches"),
             Asked::Inputs => f.write_str("inputs"),
+            Asked::Lines => f.write_str("lines"),
+            Asked::NextLine => f.write_str("the line of the next gate"),
+            Asked::TakesGate => f.write_str("whether a gate may come next"),
+            Asked::TakesOutput => f.write_str("whether an output may come next"),
+            Asked::IsComplete => f.write_str("whether all gates and outputs stand"),
             Asked::Gates => f.write_str("gates"),
             Asked::Outputs => f.write_str("outputs"),
             Asked::Gate(line) => write!(f, "the gate on line {line}"),
             Asked::Read { line, place } => write!(f, "operand {place} of line {line}"),
             Asked::Looped(line) => write!(f, "whether line {line} is looped"),
+            Asked::Marked(line) => write!(f, "whether the row of line {line} is marked as looped"),
             Asked::LoopedLines => f.write_str("looped lines"),
             Asked::Output(place) => write!(f, "output {place}"),
             Asked::Making => f.write_str("making"),
@@ -112,9 +142,13 @@ impl fmt::Display for Asked {
             Asked::Record(place) => write!(f, "record {place} of the store"),
             Asked::SameStore => f.write_str("whether two stores are the same"),
             Asked::Again(call) => write!(f, "the job done again: {call}"),
-            Asked::Tied { lane, line, tick } => {
-                write!(f, "whether lane {lane} of line {line} is tied at {tick}")
+            Asked::Tied { tie, line, tick } => {
+                write!(f, "whether {tie} ties line {line} at {tick}")
             }
+            Asked::MustBeTied { tie, line, tick } => write!(
+                f,
+                "whether {tie} ties line {line} at {tick}, where all that was given is tied"
+            ),
         }
     }
 }

@@ -1,5 +1,5 @@
 // What a session answers to a call, in each simulator.
-use crate::answer::Answer;
+use crate::answer::{Answer, Numbered};
 use crate::call::Call;
 use crate::level::Spelled;
 use engine::session::{Ending, LineState, Ran, Session};
@@ -56,7 +56,7 @@ fn try_engine<V: ValueSystem + Spelled>(
 pub fn ask_engine<V: ValueSystem + Spelled>(session: &mut Session<V>, call: Call) -> Answer {
     match try_engine(session, call) {
         Ok(answer) => answer,
-        Err(refusal) => Answer::Refused(refusal.number()),
+        Err(refusal) => refusal.told(),
     }
 }
 
@@ -113,6 +113,6 @@ pub fn ask_tickwise<R: Value + Spelled>(
 ) -> Result<Answer, AllocError> {
     match try_tickwise(session, call)? {
         Ok(answer) => Ok(answer),
-        Err(refusal) => Ok(Answer::Refused(refusal.number())),
+        Err(refusal) => Ok(refusal.told()),
     }
 }

@@ -97,7 +97,29 @@ impl Name {
     }
 }
 
+// What a call gives an input: from which tick on it may be a new value, and how far it has then been given values.
+#[derive(Clone, Copy, PartialEq, Eq, Debug)]
+pub struct Gift {
+    pub line: u32,
+    pub tick: u32,
+    pub end: u32,
+}
+
 impl Call {
+    pub fn gift(self) -> Option<Gift> {
+        match self {
+            Call::Feed { line, tick, .. } => {
+                let end = tick.saturating_add(1);
+                Some(Gift { line, tick, end })
+            }
+            Call::Hold { line, tick } => {
+                let end = tick;
+                Some(Gift { line, tick, end })
+            }
+            _ => None,
+        }
+    }
+
     // The name under which a call is counted, if it is one that arguments are drawn for.
     pub fn name(self) -> Option<Name> {
         match self {

@@ -10,6 +10,9 @@ use tickwise::value::Value;
 // Ticks that are too late for feeding and for holding.
 const TOO_LATE: [u32; 2] = [2_000_000_002, u32::MAX];
 
+// Ticks that are far beyond all that is settled, beside the last that there is.
+const FAR: [u32; 3] = [1_999_999_999, 2_147_483_648, u32::MAX - 1];
+
 // An input's line mostly, else any line or none.
 fn draw_input<R: Value>(random: &mut Random, session: &Session<R>) -> u32 {
     let circuit = session.circuit();
@@ -62,9 +65,10 @@ fn draw_given<R: Value>(
 fn draw_trim<R: Value>(random: &mut Random, session: &Session<R>) -> u32 {
     let trim = session.trim_tick();
     let reached = session.reached();
-    match random.below(8) {
-        0 => random.below(trim),
-        1 => reached.saturating_add(random.within(1, 4)),
+    match random.below(48) {
+        0 => random.pick(u32::MAX, &FAR),
+        1..6 => random.below(trim),
+        6..12 => reached.saturating_add(random.within(1, 4)),
         _ => random.within(trim, reached),
     }
 }
@@ -73,9 +77,10 @@ fn draw_trim<R: Value>(random: &mut Random, session: &Session<R>) -> u32 {
 fn draw_asked<R: Value>(random: &mut Random, session: &Session<R>, line: u32) -> u32 {
     let trim = session.trim_tick();
     let settled = session.settled(line);
-    match random.below(8) {
-        0 => random.below(trim),
-        1 => settled.saturating_add(random.below(3)),
+    match random.below(48) {
+        0 => random.pick(u32::MAX, &FAR),
+        1..6 => random.below(trim),
+        6..12 => settled.saturating_add(random.below(3)),
         _ => random.within(trim, settled.saturating_sub(1)),
     }
 }

@@ -43,6 +43,12 @@ pub struct Counts {
     pub slowest: u64,
     pub looped: u64,
     pub reading_themselves: u64,
+    // Netlists compared once more after the calls of their sessions, and drafts compared after an addition.
+    pub kept_netlists: u64,
+    pub drafts: u64,
+    // Closed netlists with more than 64 lines, and with more than 256.
+    pub wide: u64,
+    pub widest: u64,
     pub tallies: [Tally; 14],
     // Lines that were full at the end.
     pub full: u64,
@@ -53,9 +59,15 @@ pub struct Counts {
     pub untouched: u64,
     pub stores: u64,
     pub again: u64,
-    // Stores that were not the same, as they must not be.
+    // Stores compared before all calls were done again: those that were the same, and those that were not.
+    pub like: u64,
     pub unlike: u64,
+    // Values that are tied to bits, and that are not; those that are not told, and of these the ones that both sessions refuse,
+    // each with another number.
     pub tied: u64,
+    pub untied: u64,
+    pub untold: u64,
+    pub apart: u64,
 }
 
 impl Counts {

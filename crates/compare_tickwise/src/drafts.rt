@@ -1,7 +1,9 @@
 // A netlist drawn in both simulators, addition by addition.
-use crate::answer::{Answer, Asked, engine_answer, tickwise_answer};
+use crate::answer::{Answer, Asked, done_or_refused};
 use crate::call::Name;
+use crate::counts::count;
 use crate::drawing::{draw_bad_gate, draw_gate, draw_no_line};
+use crate::filled::Filled;
 use crate::kinds::kind_of;
 use crate::shape::Shape;
 use crate::stop::{Stop, compare};
@@ -15,11 +17,12 @@ use tickwise::circuit::{Circuit, Gate};
 // How many gates or outputs are tried of a draft that was opened outside the limits.
 const FEW: usize = 2;
 
-// Both drafts, and how many additions were tried.
+// Both drafts, what was accepted of them, and how many additions were tried.
 #[derive(Drop)]
 pub struct Drafts {
     engine: Draft,
     tickwise: tickwise::draft::Draft,
+    filled: Filled,
     additions: usize,
 }
 
@@ -29,6 +32,40 @@ pub struct Closed {
     pub answer: Answer,
     pub netlist: Netlist,
     pub circuit: Circuit,
+}
+
+// The greatest numbers that are accepted, the least, and those that are refused beside them.
+const INPUTS: [usize; 4] = [256, 1, 0, 257];
+
+const GATES: [usize; 4] = [768, 1, 0, 769];
+
+const OUTPUTS: [usize; 4] = [256, 1, 0, 257];
+
+// Asks for the limits alone.
+fn compare_limits(trial: &mut Trial, size: Size) -> Result<Answer, Stop> {
+    let Size {
+        inputs,
+        gates,
+        outputs,
+    } = size;
+    let answer = done_or_refused(Draft::limits(size));
+    let expected = tickwise::draft::Draft::limits(inputs, gates, outputs);
+    compare(Asked::Limits, answer, done_or_refused(expected))?;
+    trial.counts.note(Name::Limits, answer);
+    Ok(answer)
+}
+
+// Now and then asks for limits at their edges.
+pub fn try_edges(trial: &mut Trial) -> Result<(), Stop> {
+    if trial.random.one_in(12) {
+        let size = Size {
+            inputs: trial.random.pick(256, &INPUTS),
+            gates: trial.random.pick(768, &GATES),
+            outputs: trial.random.pick(256, &OUTPUTS),
+        };
+        compare_limits(trial, size)?;
+    }
+    Ok(())
 }
 
 impl Drafts {
@@ -45,15 +82,20 @@ impl Drafts {
             gates,
             outputs,
         };
-        let answer = engine_answer(Draft::limits(size));
-        let expected = tickwise::draft::Draft::limits(inputs, gates, outputs);
-        compare(Asked::Limits, answer, tickwise_answer(expected))?;
-        trial.counts.note(Name::Limits, answer);
+        let is_within = compare_limits(trial, size)? == Answer::Done;
         Ok(Drafts {
             engine: Draft::new(size),
             tickwise: tickwise::draft::Draft::new(trial.alloc, inputs, gates, outputs),
+            filled: Filled::new(size, is_within),
             additions: 0,
         })
+    }
+
+    // Compares how far the draft is filled with what was accepted.
+    fn compare_filled(&self, trial: &mut Trial) -> Result<(), Stop> {
+        self.filled.compare(&self.engine)?;
+        count(&mut trial.counts.drafts);
+        Ok(())
     }
 
     fn add_gate(&mut self, trial: &mut Trial, gate: &Gate) -> Result<(), Stop> {
@@ -63,7 +105,7 @@ impl Drafts {
             reads,
         } = gate;
         let kind = kind_of(*function);
-        let answer = engine_answer(self.engine.add_gate(kind, *delay, reads));
+        let answer = done_or_refused(self.engine.add_gate(kind, *delay, reads));
         let expected = self
             .tickwise
             .add_gate(trial.alloc, *function, *delay, reads)?;
@@ -71,23 +113,29 @@ impl Drafts {
         compare(
             Asked::AddGate(self.additions),
             answer,
-            tickwise_answer(expected),
+            done_or_refused(expected),
         )?;
         trial.counts.note(Name::AddGate, answer);
-        Ok(())
+        if answer == Answer::Done {
+            self.filled.note_gate();
+        }
+        self.compare_filled(trial)
     }
 
     fn add_output(&mut self, trial: &mut Trial, line: u32) -> Result<(), Stop> {
-        let answer = engine_answer(self.engine.add_output(line));
+        let answer = done_or_refused(self.engine.add_output(line));
         let expected = self.tickwise.add_output(line)?;
         self.additions = self.additions.saturating_add(1);
         compare(
             Asked::AddOutput(self.additions),
             answer,
-            tickwise_answer(expected),
+            done_or_refused(expected),
         )?;
         trial.counts.note(Name::AddOutput, answer);
-        Ok(())
+        if answer == Answer::Done {
+            self.filled.note_output();
+        }
+        self.compare_filled(trial)
     }
 
     // Sometimes tries an addition that is bad, or out of order.
@@ -132,6 +180,7 @@ impl Drafts {
 
     // Adds what the shape says. Now and then the last gate or output is left out.
     pub fn draw(&mut self, trial: &mut Trial, shape: &Shape) -> Result<(), Stop> {
+        self.compare_filled(trial)?;
         let mut gates = shape.gates;
         let mut outputs = shape.outputs;
         if Draft::limits(Size {
@@ -158,8 +207,8 @@ impl Drafts {
         let expected = self.tickwise.judge(alloc)?;
         compare(
             Asked::Judging,
-            engine_answer(self.engine.judge()),
-            tickwise_answer(expected),
+            done_or_refused(self.engine.judge()),
+            done_or_refused(expected),
         )?;
         let expected = self.tickwise.unreached(alloc)?;
         compare(
@@ -177,9 +226,9 @@ impl Drafts {
             tickwise,
             ..
         } = self;
-        let expected = tickwise_answer(tickwise.judge(trial.alloc)?);
+        let expected = done_or_refused(tickwise.judge(trial.alloc)?);
         let (answer, netlist) = engine.close();
-        let answer = engine_answer(answer);
+        let answer = done_or_refused(answer);
         compare(Asked::Closing, answer, expected)?;
         trial.counts.note(Name::Close, answer);
         Ok(Closed {

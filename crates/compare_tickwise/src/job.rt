@@ -1,13 +1,13 @@
 // A job at random in both simulators.
-use crate::again::do_again;
-use crate::answer::{Answer, Asked, engine_answer, tickwise_answer};
+use crate::answer::{Answer, Asked, done_or_refused};
 use crate::call::{Call, Name};
 use crate::choice::draw_call;
 use crate::counts::count;
-use crate::level::{Level, Spelled, System};
-use crate::netlists::netlist_of;
+use crate::level::{Level, Spelled, System, values_of};
+use crate::netlists::compare_netlist;
 use crate::pair::Pair;
 use crate::random::Random;
+use crate::redone::compare_again;
 use crate::related::{Job, Related};
 use crate::shape::Pace;
 use crate::stop::{Stop, compare};
@@ -17,16 +17,24 @@ use crate::trial::Trial;
 use engine::session::Session;
 use netlist::closed::Netlist;
 use tickwise::circuit::Circuit;
+use tickwise::refusal::Refusal;
 use tickwise::value::Value;
 
 // How many calls are made of a session without lines.
 const FEW_CALLS: u32 = 12;
 
-// The refusal of taking a gate whose line is full.
-const FULL: u8 = 16;
+// How many records a store has at most for a session without lines.
+const FEW_RECORDS: u32 = 12;
 
-// How many records a store has: for a few changes of each line or for more, with some left over; now and then too few.
+// Below which tick each input is given a value where there are many.
+const FIRST_TICKS: u32 = 12;
+
+// How many records a store has: for a few changes of each line or for more, with some left over; now and then too few. Where
+// there are no lines, it has some too.
 fn draw_records(random: &mut Random, pace: Pace, lines: u32) -> usize {
+    if lines == 0 {
+        return random.within(0, FEW_RECORDS) as usize;
+    }
     let room = match random.below(24) {
         0 => 0,
         1..12 => random.within(1, 3),
@@ -54,14 +62,6 @@ fn draw_starts(trial: &mut Trial, system: System, inputs: usize) -> Result<Vec<L
     Ok(starts)
 }
 
-fn spelled<V: Spelled>(trial: &Trial, levels: &[Level]) -> Result<Vec<V>, Stop> {
-    let mut values = Vec::new(trial.alloc);
-    for level in levels {
-        values.push(V::of(*level))?;
-    }
-    Ok(values)
-}
-
 // Makes calls at random, and now and then asks for all that can be asked.
 fn make_calls<V: Related, R: Value + Spelled>(
     trial: &mut Trial,
@@ -81,47 +81,6 @@ fn make_calls<V: Related, R: Value + Spelled>(
     Ok(())
 }
 
-// Does the job of a session again in another store, and compares both: when the other is made, and when it was given the same
-// and rests.
-fn compare_again<V: Related, R: Value + Spelled>(
-    trial: &mut Trial,
-    pair: &Pair<V, R>,
-    system: System,
-    records: usize,
-    job: Job,
-) -> Result<(), Stop> {
-    let mut store = blank::<V>(trial, system, records)?;
-    let starts = spelled::<V>(trial, job.starts)?;
-    let mut again = Session::make(netlist_of(job.circuit)?, &mut store, &starts);
-    let starts = spelled::<R>(trial, job.starts)?;
-    let made = tickwise::session::Session::make(trial.alloc, job.circuit, records, &starts)?;
-    let same = same_stores(&made, &pair.tickwise)?;
-    let answer = Answer::Truth(pair.engine.same_store(&again));
-    compare(Asked::SameStore, answer, Answer::Truth(same))?;
-    if !same {
-        count(&mut trial.counts.unlike);
-    }
-    do_again(trial, &mut again, job.log)?;
-    let same = Answer::Truth(pair.engine.same_store(&again));
-    compare(Asked::SameStore, same, Answer::Truth(true))?;
-    count(&mut trial.counts.again);
-    Ok(())
-}
-
-// Whether two sessions on tables must have equal stores.
-fn same_stores<R: Value>(
-    left: &tickwise::session::Session<R>,
-    right: &tickwise::session::Session<R>,
-) -> Result<bool, Stop> {
-    let left = left.store()?;
-    let right = right.store()?;
-    let mut same = left.len() == right.len();
-    for (record, other) in left.iter().zip(right.iter()) {
-        same &= record.tick == other.tick && record.value.same(other.value);
-    }
-    Ok(same)
-}
-
 // Whether a line is full at rest: its gate is refused as full, and not as idle.
 fn compare_full<V: Related, R: Value + Spelled>(
     trial: &mut Trial,
@@ -130,7 +89,7 @@ fn compare_full<V: Related, R: Value + Spelled>(
 ) -> Result<(), Stop> {
     let is_full = pair.tickwise.is_full(line);
     let answer = pair.ask(Call::Take(line))?;
-    let answer = Answer::Truth(answer == Answer::Refused(FULL));
+    let answer = Answer::Truth(answer == Answer::Refused(Refusal::Full.number()));
     compare(Asked::Full(line), answer, Answer::Truth(is_full))?;
     if is_full {
         count(&mut trial.counts.full);
@@ -169,11 +128,11 @@ fn check<V: Related, R: Value + Spelled>(
     netlist: &Netlist,
 ) -> Result<Answer, Stop> {
     let store = blank::<V>(trial, desk.system, desk.records)?;
-    let starts = spelled::<V>(trial, &desk.starts)?;
-    let answer = engine_answer(Session::check(netlist, &store, &starts));
-    let starts = spelled::<R>(trial, &desk.starts)?;
+    let starts = values_of::<V>(trial.alloc, &desk.starts)?;
+    let answer = done_or_refused(Session::check(netlist, &store, &starts));
+    let starts = values_of::<R>(trial.alloc, &desk.starts)?;
     let expected = tickwise::session::Session::check(desk.circuit, desk.records, &starts);
-    compare(Asked::Making, answer, tickwise_answer(expected))?;
+    compare(Asked::Making, answer, done_or_refused(expected))?;
     trial.counts.note(Name::Make, answer);
     Ok(answer)
 }
@@ -190,7 +149,25 @@ fn compare_others<V: Related, R: Value + Spelled>(
         log: &pair.log,
     };
     compare_again(trial, pair, desk.system, desk.records, job)?;
-    V::compare_related(trial, &pair.engine, job)
+    V::compare_related(trial, pair, job)
+}
+
+// Gives every input some value, and holds it further. Calls at random do so only where inputs are few.
+fn give_all<V: Related, R: Value + Spelled>(
+    trial: &mut Trial,
+    pair: &mut Pair<V, R>,
+    system: System,
+) -> Result<(), Stop> {
+    for line in 1..=pair.tickwise.circuit().lines() {
+        if pair.tickwise.circuit().is_input(line) {
+            let tick = trial.random.below(FIRST_TICKS);
+            let value = system.draw(&mut trial.random);
+            pair.call(trial, Call::Feed { line, tick, value })?;
+            let tick = trial.random.within(FIRST_TICKS, FIRST_TICKS * 2);
+            pair.call(trial, Call::Hold { line, tick })?;
+        }
+    }
+    Ok(())
 }
 
 // Does a job in a session with lines.
@@ -201,6 +178,9 @@ fn do_job<V: Related, R: Value + Spelled>(
 ) -> Result<(), Stop> {
     trial.counts.note_session(desk.system);
     survey(trial, pair)?;
+    if desk.pace == Pace::Wide {
+        give_all(trial, pair, desk.system)?;
+    }
     let calls = desk.pace.calls(&mut trial.random);
     make_calls(trial, pair, desk.system, desk.pace, calls)?;
     rest(trial, pair)?;
@@ -217,8 +197,8 @@ fn work<V: Related, R: Value + Spelled>(
     let nothing = Circuit::empty(trial.alloc);
     let circuit = if made { desk.circuit } else { &nothing };
     let mut store = blank::<V>(trial, desk.system, desk.records)?;
-    let starts = spelled::<V>(trial, &desk.starts)?;
-    let expected_starts = spelled::<R>(trial, &desk.starts)?;
+    let starts = values_of::<V>(trial.alloc, &desk.starts)?;
+    let expected_starts = values_of::<R>(trial.alloc, &desk.starts)?;
     let mut pair = Pair {
         engine: Session::make(netlist, &mut store, &starts),
         tickwise: tickwise::session::Session::make(
@@ -236,6 +216,8 @@ fn work<V: Related, R: Value + Spelled>(
         make_calls(trial, &mut pair, desk.system, desk.pace, FEW_CALLS)?;
         survey(trial, &mut pair)?;
     }
+    compare_netlist(trial.alloc, pair.engine.netlist(), circuit)?;
+    count(&mut trial.counts.kept_netlists);
     let expected = pair.tickwise.store()?;
     drop(pair);
     compare_store(trial, desk.system, &store, &expected)

@@ -1,5 +1,6 @@
 // Values as both simulators have them, each in its own types.
 use crate::random::Random;
+use std::alloc::{AllocError, Global};
 use std::fmt;
 use tickwise::three::Three;
 use tickwise::two::Two;
@@ -32,6 +33,15 @@ pub trait Spelled: Copy {
     fn of(level: Level) -> Self;
 
     fn level(self) -> Level;
+}
+
+// The values that levels spell.
+pub fn values_of<V: Spelled>(alloc: Global, levels: &[Level]) -> Result<Vec<V>, AllocError> {
+    let mut values = Vec::new(alloc);
+    for level in levels {
+        values.push(V::of(*level))?;
+    }
+    Ok(values)
 }
 
 impl Spelled for Bit {

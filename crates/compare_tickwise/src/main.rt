@@ -10,6 +10,7 @@ mod choice;
 mod counts;
 mod drafts;
 mod drawing;
+mod filled;
 mod job;
 mod kinds;
 mod level;
@@ -17,20 +18,22 @@ mod netlists;
 mod options;
 mod pair;
 mod random;
+mod redone;
 mod related;
 mod report;
 mod shape;
 mod stop;
 mod stores;
 mod survey;
+mod tie;
 mod trial;
 
 use crate::answer::{Answer, Difference};
 use crate::counts::Counts;
-use crate::drafts::{Closed, Drafts};
+use crate::drafts::{Closed, Drafts, try_edges};
 use crate::job::simulate;
 use crate::level::System;
-use crate::netlists::compare_netlist;
+use crate::netlists::{compare_netlist, count_gates};
 use crate::options::Options;
 use crate::random::Random;
 use crate::shape::Shape;
@@ -61,6 +64,7 @@ fn system_of(seed: u64) -> System {
 
 // Draws a netlist, and simulates it. Of one that was refused, the closed netlist has no lines.
 fn compare_one(trial: &mut Trial, system: System) -> Result<(), Stop> {
+    try_edges(trial)?;
     let mut shape = Shape::draw(&mut trial.random);
     shape.spoil(&mut trial.random);
     let mut drafts = Drafts::open(trial, &shape)?;
@@ -75,7 +79,8 @@ fn compare_one(trial: &mut Trial, system: System) -> Result<(), Stop> {
     } else {
         Circuit::empty(trial.alloc)
     };
-    compare_netlist(trial, &netlist, &circuit)?;
+    let looped = compare_netlist(trial.alloc, &netlist, &circuit)?;
+    count_gates(&mut trial.counts, &circuit, looped);
     let pace = shape.pace;
     match system {
         System::Two => simulate::<Bit, Two>(trial, system, pace, &circuit, netlist),

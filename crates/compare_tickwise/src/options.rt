@@ -27,8 +27,12 @@ fn read_number(word: Option<String>, other: u64) -> Result<u64, Stop> {
 
 pub fn read<R: Runtime + AllocGlobal>(rt: &R) -> Result<Options, Stop> {
     let mut words = env::args(rt)?.skip(1);
-    Ok(Options {
+    let options = Options {
         seed: read_number(words.next(), SEED)?,
         netlists: read_number(words.next(), NETLISTS)?,
-    })
+    };
+    match words.next() {
+        None => Ok(options),
+        Some(word) => Err(Stop::OneMore(word)),
+    }
 }

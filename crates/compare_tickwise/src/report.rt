@@ -34,7 +34,9 @@ fn tell_gates(rt: &impl Print, counts: &Counts) -> io::Result<()> {
         ..
     } = counts;
     println!(rt; "; {looped} looped, {reading_themselves} read themselves")?;
-    println!(rt; "  with delays of 100 and more: {slow}; of 65535: {slowest}")
+    println!(rt; "  with delays of 100 and more: {slow}; of 65535: {slowest}")?;
+    let Counts { wide, widest, .. } = counts;
+    println!(rt; "  {wide} netlists of more than 64 lines, {widest} of these of more than 256")
 }
 
 fn tell_tally(rt: &impl Print, name: Name, tally: &Tally) -> io::Result<()> {
@@ -71,20 +73,42 @@ fn tell_compared(rt: &impl Print, counts: &Counts) -> io::Result<()> {
         stores,
         records,
         untouched,
-        again,
-        unlike,
-        tied,
         ..
     } = counts;
     println!(rt; "  {stores} stores of {records} records, {untouched} of them beyond the lines")?;
+    let Counts {
+        drafts,
+        kept_netlists,
+        ..
+    } = counts;
+    println!(rt; "  {drafts} drafts between additions, {kept_netlists} netlists after all calls")
+}
+
+fn tell_others(rt: &impl Print, counts: &Counts) -> io::Result<()> {
+    let Counts {
+        again,
+        like,
+        unlike,
+        ..
+    } = counts;
     println!(rt;
-        "  {again} jobs done again, {unlike} stores before that not the same, {tied} values tied to bits"
-    )
+        "{again} jobs done again; before the end {like} stores were the same, and {unlike} were not"
+    )?;
+    let Counts {
+        tied,
+        untied,
+        untold,
+        apart,
+        ..
+    } = counts;
+    println!(rt; "with bits: {tied} values tied, {untied} not tied, {untold} not told")?;
+    println!(rt; "  {apart} of the last were refused by both sessions, for two reasons")
 }
 
 pub fn tell(rt: &impl Print, counts: &Counts) -> io::Result<()> {
     tell_sessions(rt, counts)?;
     tell_gates(rt, counts)?;
     tell_calls(rt, counts)?;
-    tell_compared(rt, counts)
+    tell_compared(rt, counts)?;
+    tell_others(rt, counts)
 }

@@ -4,6 +4,7 @@ use crate::random::Random;
 #[derive(Clone, Copy, PartialEq, Eq, Debug)]
 pub enum Pace {
     Short,
+    Wide,
     Mixed,
     Long,
     Longest,
@@ -20,7 +21,11 @@ pub struct Shape {
 pub const MOST_DELAY: u32 = 65_535;
 
 impl Pace {
+    // Once in some sixty times there are many lines.
     pub fn draw(random: &mut Random) -> Pace {
+        if random.one_in(60) {
+            return Pace::Wide;
+        }
         match random.below(100) {
             0 => Pace::Longest,
             1..7 => Pace::Long,
@@ -32,7 +37,7 @@ impl Pace {
     // The delay of a gate.
     pub fn delay(self, random: &mut Random) -> u32 {
         match self {
-            Pace::Short => random.within(1, 4),
+            Pace::Short | Pace::Wide => random.within(1, 4),
             Pace::Mixed if random.one_in(3) => random.within(5, 40),
             Pace::Mixed => random.within(1, 5),
             Pace::Long if random.one_in(2) => random.within(100, 700),
@@ -45,7 +50,7 @@ impl Pace {
     // How far the end of an input moves at most in one call.
     pub fn stride(self) -> u32 {
         match self {
-            Pace::Short => 6,
+            Pace::Short | Pace::Wide => 6,
             Pace::Mixed => 20,
             Pace::Long => 300,
             Pace::Longest => 40_000,
@@ -55,7 +60,7 @@ impl Pace {
     // How many calls are made.
     pub fn calls(self, random: &mut Random) -> u32 {
         match self {
-            Pace::Longest => random.within(8, 16),
+            Pace::Longest | Pace::Wide => random.within(8, 16),
             _ => random.within(15, 60),
         }
     }
@@ -75,6 +80,7 @@ impl Shape {
     pub fn draw(random: &mut Random) -> Shape {
         let pace = Pace::draw(random);
         let (inputs, gates) = match pace {
+            Pace::Wide => (random.within(1, 256), random.within(60, 300)),
             Pace::Longest => (random.within(1, 2), random.within(1, 3)),
             Pace::Long => (random.within(1, 3), few(random, 6, 12)),
             Pace::Short | Pace::Mixed => (few(random, 3, 9), few(random, 9, 40)),

@@ -10,6 +10,8 @@ pub enum Stop {
     Differs(Difference),
     #[error("{0} is no number; compare_tickwise SEED NETLISTS")]
     Misuse(String),
+    #[error("{0} is one argument too many; compare_tickwise SEED NETLISTS")]
+    OneMore(String),
     #[error("{0}")]
     Io(#[from] io::Error),
     #[error("out of memory")]

@@ -1,5 +1,5 @@
 // All that can be asked of a session, compared.
-use crate::answer::{Answer, Asked};
+use crate::answer::{Answer, Asked, Numbered};
 use crate::asking::{ask_engine, changed};
 use crate::call::Call;
 use crate::counts::count;
@@ -72,7 +72,7 @@ pub fn survey_distances<V: ValueSystem + Spelled, R: Value + Spelled>(
     for line in 1..=pair.tickwise.circuit().lines() {
         let settled = match pair.engine.state(line) {
             Ok(state) => Answer::Tick(state.settled),
-            Err(refusal) => Answer::Refused(refusal.number()),
+            Err(refusal) => refusal.told(),
         };
         let place = (line as usize).saturating_sub(1);
         let expected = match distances.get(place).copied().flatten() {

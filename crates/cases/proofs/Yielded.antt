@@ -51,9 +51,9 @@ short = (Making.few_records (omega arith) (omega arith), found (unmade [] store_
 ungiven : Worked two_valued no_value_is_given
 ungiven = (Making.other_starts (omega arith) (omega arith) (λ same. omega (arith, same)), tt)
 
-lineless : Worked two_valued nothing_is_made
+not_made : Worked two_valued nothing_is_made
 unfolding initial value begin_to follow_to looped leads
-lineless = (Making.no_lines refl, found (unmade ([] ∷ []) nothing_is_made.calls) refl)
+not_made = (Making.no_lines refl, found (unmade ([] ∷ []) nothing_is_made.calls) refl)
 
 latched : Worked three_valued latch_is_set
 unfolding same_values initial value begin_to follow_to looped leads
@@ -61,4 +61,4 @@ latched =
     (Making.accepted (omega arith) (omega arith) refl, found (gives equal_values three_valued latch 2 refl _ (Testing.begun equal_values three_valued latch 2 (given (λ v. v) X (Zero ∷ Zero ∷ []))) (((3, 1) ∷ (4, 2) ∷ (3, 3) ∷ (4, 4) ∷ (3, 5) ∷ (4, 6) ∷ (3, 7) ∷ (4, 8) ∷ (3, 9) ∷ (4, 10) ∷ (3, 10) ∷ []) ∷ []) latch_is_set.calls) refl)
 
 pub all_yielded : AllYielded table
-all_yielded = (seen, (early, (full, (short, (ungiven, (lineless, (latched, (refused, (pulse_read, (free_told, (zero_first_told, (blank_last_told, (no_delay_told, tt)))))))))))))
+all_yielded = (seen, (early, (full, (short, (ungiven, (not_made, (latched, (refused, (pulse_read, (free_told, (zero_first_told, (blank_last_told, (no_delay_told, tt)))))))))))))

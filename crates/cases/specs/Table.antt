@@ -126,7 +126,8 @@ latch_is_set = record {
       ∷ [];
 }
 
--- Each call of a made session is refused in each way, but for a list that is full. Where one call can be refused in two ways, the first counts.
+-- Each call of a made session is refused in each way, but for a list that is full. Where one call can be refused in two ways,
+-- the first counts.
 abbrev pub all_is_refused : Job Bool
 all_is_refused = record {
   circuit = pulse;

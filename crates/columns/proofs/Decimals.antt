@@ -1,11 +1,9 @@
 -- Which bytes are the decimal of a number.
-use Rattle.std.proofs.Common.{◌≡◌, ℕ, ◌^◌, ◌<◌, ◌≤◌, List, length, get_or, Option, None, Result, Ok, Err, decimal, sym, ap, ◌∙◌, subst, arith, MatchOption}
-use Rattle.std.specs.Str.{IsUtf8}
-use Rattle.std.specs.Str.Parse.{ParsesUnsigned}
-use Rattle.std.specs.Result.{result_ok}
-use Rattle.std.proofs.lemmas.Fmt.{IsAscii-decimal, decimal_nonempty, decimal_digit, decimal-digits_value, first_decimal, parse-decimal}
-use Rattle.std.proofs.lemmas.Str.{IsUtf8-from_ascii}
-use Rattle.std.proofs.lemmas.Str.Parse.{numerals_by_value, tells_digits, parse_plain}
+use Rattle.std.proofs.Common.{◌≡◌, ℕ, ◌^◌, ◌<◌, ◌≤◌, List, length, get_or, Option, Some, None, decimal, sym, ap, ◌∙◌, subst, arith, MatchOption}
+use Rattle.std.specs.Option.{SomeIff}
+use Rattle.std.specs.Str.Parse.{AllDigits, digits_value}
+use Rattle.std.proofs.lemmas.Fmt.{decimal_is_IsNumeral, decimal_nonempty, decimal_digit, decimal-digits_value, first_decimal}
+use Rattle.std.proofs.lemmas.Str.Parse.{numerals_by_value, tells_digits}
 use Rattle.columns.proofs.Spelled.{digit_decimal}
 
 -- a first byte and a length as a decimal has them: a digit, and 0 only where it stands alone
@@ -30,14 +28,8 @@ leads n small =
 pub no_number : (ds : List ℕ) → (Leads ds → ⊥) → (n : ℕ) → n < 2 ^ 64 → ds ≡ decimal n → ⊥
 no_number ds other n small is = other (subst Leads (sym is) (leads n small))
 
--- and neither are bytes that are no text
-pub no_text : (ds : List ℕ) (found : Option ℕ) → found ≡ None → (IsUtf8 ds → ⊥) → MatchOption found ((n : ℕ) → n < 2 ^ 64 → ds ≡ decimal n → ⊥) (λ n. (n < 2 ^ 64) × (ds ≡ decimal n))
-no_text ds found none other = rw none (λ n small is. other (subst IsUtf8 (sym is) (IsUtf8-from_ascii (decimal n) (IsAscii-decimal n small))))
-
--- of the others `parse` tells which are one
-pub by_parse : {E : Type 0} (ds : List ℕ) (r : Result ℕ E) → Leads ds → ParsesUnsigned 64 10 ds r → MatchOption (result_ok r) ((n : ℕ) → n < 2 ^ 64 → ds ≡ decimal n → ⊥) (λ n. (n < 2 ^ 64) × (ds ≡ decimal n))
-by_parse {E} ds (Err e) lead parses = λ n small is. let same = parse-decimal 64 n ds (Err e) small small is parses in cc
-by_parse {E} ds (Ok x) lead parses =
-    let own = numerals_by_value _ tells_digits in
-    let h = parse_plain own {E = E} 64 ds (Ok x) parses (omega (arith, lead.least)) in
-    (omega (arith, h.0.2, h.1), sym (ap decimal h.1 ∙ decimal-digits_value own ds h.0.0 lead.some (λ first. omega (arith, lead.alone first, lead.some)) h.0.2))
+-- of the others the value of the digits tells which are one
+pub by_value : (ds : List ℕ) (r : Option ℕ) → Leads ds → SomeIff r (AllDigits 10 ds × (digits_value 10 ds < 2 ^ 64)) (digits_value 10 ds) → MatchOption r ((n : ℕ) → n < 2 ^ 64 → ds ≡ decimal n → ⊥) (λ n. (n < 2 ^ 64) × (ds ≡ decimal n))
+by_value ds (Some x) lead h =
+    (omega (arith, h.0.1, h.1), sym (ap decimal h.1 ∙ decimal-digits_value (numerals_by_value _ tells_digits) ds h.0.0 lead.some (λ first. omega (arith, lead.alone first, lead.some)) h.0.1))
+by_value ds None lead h = λ n small is. h (subst (AllDigits 10) (sym is) (decimal_is_IsNumeral n small).0.1, omega (arith, ap (digits_value 10) is, (decimal_is_IsNumeral n small).1))

@@ -1,3 +1,4 @@
 pub mod Decimals
+mod Folding
 mod Readings
 pub mod Spelled

@@ -2,6 +2,8 @@
 #![tactic(auto)]
 
 ghost use Rattle.std.specs.Prelude.{◌≡◌, ℕ, ◌-◌, ◌^◌, ◌<◌, ◌≤◌, ◌↔◌, ◌++◌, length, drop, replicate, decimal, codes, IsOk, OnOk, OnErr, MatchOption, Result, Ok, Some, ◌≢◌, slice_index};
+ghost use Rattle.std.specs.Option.{SomeIff};
+ghost use Rattle.std.specs.Str.Parse.{AllDigits, digits_value};
 ghost use Rattle.columns.specs.Spelling.{Means, spelled};
 ghost use Rattle.columns.specs.declared.FieldError.{FieldError};
 
@@ -10,6 +12,10 @@ use std::error::Error;
 use std::fmt;
 
 const BLANK: u8 = b' ';
+
+const ZERO: u8 = b'0';
+
+const BASE: u64 = 10;
 
 // Why columns are read as no number: they are all blank, or hold something else than one number after blanks.
 #[derive(Clone, Copy, PartialEq, Eq, Debug)]
@@ -58,14 +64,30 @@ fn blanks_before(text: &[u8]) -> usize
 }
 
 // The number of which the digits are the decimal: a leading 0 stands only in the number 0.
-#[tactic(auto, using(crate::proofs::Decimals::no_number, crate::proofs::Decimals::no_text, crate::proofs::Decimals::by_parse))]
+#[tactic(auto, using(crate::proofs::Decimals::no_number, crate::proofs::Decimals::by_value))]
 fn number(digits: &[u8]) -> Option<u64>
     ensures { MatchOption result ((n : ℕ) → n < 2 ^ 64 → digits.now ≢ decimal n) (λ n. (n < 2 ^ 64) × (digits.now ≡ decimal n)) }
 {
     match digits {
-        [b'0'] | [b'1'..=b'9', ..] => str::from_utf8(digits).ok()?.parse().ok(),
+        [b'0'] | [b'1'..=b'9', ..] => value_of(digits),
         _ => None,
     }
+}
+
+// The value of the digits, or nothing where a byte is no digit or the value does not fit. A loop, which stops at that byte:
+// as text the bytes would be read twice, and all of them however long they are.
+fn value_of(digits: &[u8]) -> Option<u64>
+    ensures { SomeIff result (AllDigits 10 digits.now × (digits_value 10 digits.now < 2 ^ 64)) (digits_value 10 digits.now) }
+{
+    let mut total: u64 = 0;
+    for digit in digits {
+        if !digit.is_ascii_digit() {
+            return None;
+        }
+        let shifted = total.checked_mul(BASE)?;
+        total = shifted.checked_add(u64::from(*digit - ZERO))?;
+    }
+    Some(total)
 }
 
 // There are fewer columns than the number has digits.

@@ -1,6 +1,6 @@
 -- A search stays sound as it marks lines, and what it has followed to the end leaves out no walk.
-use Rattle.std.proofs.Common.{◌≡◌, ℕ, ◌+◌, ◌<◌, Bool, true, false, cond, not, ◌⊎◌, List, [], ◌∷◌, ◌++◌, length, get_or, set, replicate, count_by, sym, refl, ap, ◌∙◌, subst, inl, inr, ⊎_elim, arith, length-set, below_more, Contains}
-use Rattle.std.proofs.lemmas.List.{length-append, length-replicate, get_or_past, get_or-replicate, get_or-set_same, get_or-set_other}
+use Rattle.std.proofs.Common.{◌≡◌, ℕ, zero, suc, ◌+◌, ◌<◌, Bool, true, false, cond, not, ◌⊎◌, List, [], ◌∷◌, ◌++◌, length, get_or, set, replicate, count_by, sym, refl, ap, ◌∙◌, subst, inl, inr, ⊎_elim, arith, length-set, below_more, Contains}
+use Rattle.std.proofs.lemmas.List.{length-append, length-drop, length-replicate, drop-append-le, get_or_past, get_or-replicate, get_or-set_same, get_or-set_other}
 use Rattle.std.proofs.lemmas.List.Elements.{Contains-append_left, Contains-push, Contains-push_cases}
 use Rattle.std.proofs.lemmas.List.Folds.{sum_by-replicate}
 use Rattle.std.proofs.lemmas.List.Sums.{sum_by-set}
@@ -8,7 +8,7 @@ use Rattle.std.proofs.lemmas.Bool.{cases_eq, cases_lt, both_ways}
 use Rattle.std.specs.Int.{is_in_range}
 use Rattle.netlist.specs.declared.draft.search.Search.{Search}
 use Rattle.netlist.specs.Gates.{Circuit}
-use Rattle.netlist.specs.Searches.{seen, unseen, marked, Waits, Sound, Grows, Followed}
+use Rattle.netlist.specs.Searches.{seen, unseen, waiting, Waits, marked, Takes, Sound, Grows, Followed}
 use Rattle.netlist.specs.Walks.{reads, Reads, Walk, Leads}
 use Rattle.netlist.proofs.Ranges.{inside}
 use Rattle.netlist.specs.Walks.Walk.{step, on}
@@ -36,10 +36,16 @@ module _ (c : Circuit) (first last n : ℕ) (s : Search) (ok : Sound first last 
   fewer_by_one : unseen (marked s m) + 1 ≡ unseen s
   fewer_by_one = one_less s.seen m on_table fresh
 
-  one_more : length (marked s m).waiting.items ≡ length s.waiting.items + 1
-  one_more = length-append s.waiting.items (m ∷ [])
+  one_more : length (marked s m).found.items ≡ length s.found.items + 1
+  one_more = length-append s.found.items (m ∷ [])
 
-  pub room : length s.waiting.items < 1026
+  waits_last : waiting (marked s m) ≡ waiting s ++ m ∷ []
+  waits_last = drop-append-le s.next s.found.items (m ∷ []) ok.within
+
+  one_more_waits : length (waiting (marked s m)) ≡ length (waiting s) + 1
+  one_more_waits = ap length waits_last ∙ length-append (waiting s) (m ∷ [])
+
+  pub room : length s.found.items < 1026
   room = omega (arith, fewer_by_one, ok.room)
 
   seen_before : (k : ℕ) → (k ≡ m → ⊥) → seen (marked s m) k ≡ true → seen s k ≡ true
@@ -48,10 +54,10 @@ module _ (c : Circuit) (first last n : ℕ) (s : Search) (ok : Sound first last 
   pub mark_grows : Reads c n m → Grows c n s (marked s m)
   mark_grows read = record {
     seen_stays = λ k e. ⊎_elim (λ same. subst (λ j. seen (marked s m) j ≡ true) (sym same) (get_or-set_same s.seen m true false on_table)) (λ other. get_or-set_other s.seen m k true false other ∙ e) (cases_eq k m);
-    waits_stays = λ k w. Contains-append_left s.waiting.items (m ∷ []) k w;
-    new_waits = λ k e. ⊎_elim (λ same. inr (subst (Waits (marked s m)) (sym same) (Contains-push s.waiting.items m))) (λ other. inl (seen_before k other e)) (cases_eq k m);
-    new_read = λ k w. ⊎_elim inl (λ is. inr (subst (Reads c n) is read)) (Contains-push_cases s.waiting.items m k w);
-    moved = omega (arith, one_more, fewer_by_one);
+    waits_stays = λ k w. subst (λ l. Contains l k) (sym waits_last) (Contains-append_left (waiting s) (m ∷ []) k w);
+    new_waits = λ k e. ⊎_elim (λ same. inr (subst (λ l. Contains l k) (sym waits_last) (subst (Contains (waiting s ++ m ∷ [])) (sym same) (Contains-push (waiting s) m)))) (λ other. inl (seen_before k other e)) (cases_eq k m);
+    new_read = λ k w. ⊎_elim inl (λ is. inr (subst (Reads c n) is read)) (Contains-push_cases (waiting s) m k (subst (λ l. Contains l k) waits_last w));
+    moved = omega (arith, one_more_waits, fewer_by_one);
     fewer = omega (arith, fewer_by_one);
   }
 
@@ -59,6 +65,7 @@ module _ (c : Circuit) (first last n : ℕ) (s : Search) (ok : Sound first last 
   mark_sound out = record {
     table = length-set s.seen m true ∙ ok.table;
     room = omega (arith, one_more, fewer_by_one, ok.room);
+    within = omega (arith, one_more, ok.within);
     outside = λ k e. ⊎_elim (λ same. ap (is_in_range first last) same ∙ out) (λ other. ok.outside k (seen_before k other e)) (cases_eq k m);
   }
 
@@ -102,11 +109,12 @@ pub record Progress (c : Circuit) (first last n : ℕ) (s : Search) : Type 0 whe
   pub upstream : (m : ℕ) → Waits s m → Upstream c n m
   pub done : (m : ℕ) → (m ≡ n) ⊎ (seen s m ≡ true) → Waits s m ⊎ Followed c s m
 
-pub begins : (c : Circuit) (first last n : ℕ) (s : Search) → s.seen ≡ replicate 1025 false → s.waiting.items ≡ n ∷ [] → Progress c first last n s
-begins c first last n s clear waits = record {
+pub begins : (c : Circuit) (first last n : ℕ) (s : Search) → s.seen ≡ replicate 1025 false → waiting s ≡ n ∷ [] → length s.found.items ≡ 1 → Progress c first last n s
+begins c first last n s clear waits one = record {
   sound = record {
     table = ap length clear ∙ length-replicate 1025 false;
-    room = omega (arith, ap length waits, ap (count_by not) clear ∙ sum_by-replicate (λ b. cond (not b) 1 0) 1025 false);
+    room = omega (arith, one, ap (count_by not) clear ∙ sum_by-replicate (λ b. cond (not b) 1 0) 1025 false);
+    within = omega (arith, one, ap length waits, length-drop s.next s.found.items);
     outside = λ m e. absurd (unmarked m e);
   };
   upstream = λ m w. ⊎_elim (λ none. absurd (omega (arith, none.1))) (λ is. inl (sym is)) (Contains-push_cases [] n m (subst (λ l. Contains l m) waits w));
@@ -119,18 +127,32 @@ begins c first last n s clear waits = record {
     unmarked : (m : ℕ) → seen s m ≡ true → ⊥
     unmarked m e = both_ways _ (ap (λ l. get_or l m false) clear ∙ off m) e
 
--- the next line is taken from those that wait, and followed
-module _ (c : Circuit) (first last n : ℕ) (s p : Search) (line : ℕ) (so_far : Progress c first last n s) (same : p.seen ≡ s.seen) (taken : s.waiting.items ≡ p.waiting.items ++ line ∷ []) where
+waits_first : (line : ℕ) (ns : List ℕ) → Contains (line ∷ ns) line
+waits_first line ns = (0, omega arith, refl)
+
+waits_later : (line m : ℕ) (ns : List ℕ) → Contains ns m → Contains (line ∷ ns) m
+waits_later line m ns (k, within, is) = (suc k, omega arith, is)
+
+first_or_later : (line m : ℕ) (ns : List ℕ) → Contains (line ∷ ns) m → Contains ns m ⊎ (line ≡ m)
+first_or_later line m ns (zero, within, is) = inr is
+first_or_later line m ns (suc k, within, is) = inl (k, omega arith, is)
+
+-- the line that has waited longest is taken, and followed
+module _ (c : Circuit) (first last n : ℕ) (s p : Search) (line : ℕ) (so_far : Progress c first last n s) (taken : Takes s line p) where
+  same : p.seen ≡ s.seen
+  same = taken.same_seen
+
   waited : (m : ℕ) → Waits p m → Waits s m
-  waited m w = subst (λ l. Contains l m) (sym taken) (Contains-append_left p.waiting.items (line ∷ []) m w)
+  waited m w = subst (λ l. Contains l m) (sym taken.first) (waits_later line m (waiting p) w)
 
   pub next_upstream : Upstream c n line
-  next_upstream = so_far.upstream line (subst (λ l. Contains l line) (sym taken) (Contains-push p.waiting.items line))
+  next_upstream = so_far.upstream line (subst (λ l. Contains l line) (sym taken.first) (waits_first line (waiting p)))
 
   pub next_sound : Sound first last p
   next_sound = record {
     table = ap length same ∙ so_far.sound.table;
-    room = let long = ap length taken ∙ length-append p.waiting.items (line ∷ []) in let marks = ap (count_by not) same in omega (arith, long, marks, so_far.sound.room);
+    room = omega (arith, ap (λ f. length f.items) taken.same_found, ap (count_by not) same, so_far.sound.room);
+    within = taken.within;
     outside = λ m e. so_far.sound.outside m (ap (λ l. get_or l m false) (sym same) ∙ e);
   }
 
@@ -145,7 +167,7 @@ module _ (c : Circuit) (first last n : ℕ) (s p : Search) (line : ℕ) (so_far 
       stays m e = grown.seen_stays m (ap (λ l. get_or l m false) same ∙ e)
 
       still : (m : ℕ) → Waits s m → Waits t m ⊎ Followed c t m
-      still m w = ⊎_elim (λ old. inl (grown.waits_stays m old)) (λ is. inr (subst (Followed c t) is followed)) (Contains-push_cases p.waiting.items line m (subst (λ l. Contains l m) taken w))
+      still m w = ⊎_elim (λ old. inl (grown.waits_stays m old)) (λ is. inr (subst (Followed c t) is followed)) (first_or_later line m (waiting p) (subst (λ l. Contains l m) taken.first w))
 
       waiting_or_followed : (m : ℕ) → Waits s m ⊎ Followed c s m → Waits t m ⊎ Followed c t m
       waiting_or_followed m was = ⊎_elim (still m) (λ f. inr (λ k read. stays k (f k read))) was
@@ -164,7 +186,7 @@ all_seen c first last n s so_far none m k is (step read) = ⊎_elim (λ w. absur
 all_seen c first last n s so_far none m k is (on {j = j} read walk) =
     ⊎_elim (λ w. absurd (none j w)) (λ f. f m read) (so_far.done j (inr (all_seen c first last n s so_far none j k is walk)))
 
-pub ends : (c : Circuit) (first last n : ℕ) (s : Search) → Progress c first last n s → length s.waiting.items ≡ 0 → Leads c first last n → ⊥
+pub ends : (c : Circuit) (first last n : ℕ) (s : Search) → Progress c first last n s → length (waiting s) ≡ 0 → Leads c first last n → ⊥
 ends c first last n s so_far empty lead =
     let was = all_seen c first last n s so_far (λ m w. omega (arith, w.1)) lead.from n refl lead.walk in
     both_ways _ (so_far.sound.outside lead.from was) (inside first last lead.from lead.not_before lead.not_after)

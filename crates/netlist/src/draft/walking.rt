@@ -45,7 +45,7 @@ impl Draft {
         ensures no { result ≡ false → Leads (sheet self.now).circuit sources.first sources.last to → ⊥ }
     {
         let mut search = Search::new(to);
-        while let Some(line) = search.waiting.pop() {
+        while let Some(line) = search.take() {
             if self.visit(&mut search, line, sources) {
                 return true;
             }

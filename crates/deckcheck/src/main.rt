@@ -1,7 +1,8 @@
 // Checks a deck from standard input, and prints each action that it takes.
 #![tactic(auto)]
 
-use arrayvec::ArrayVec;
+ghost use Rattle.std.specs.Prelude.{◌≤◌, length, IfOk};
+
 use deck::closing::check_reached;
 use deck::entry::Entry;
 use deck::fault::Fault;
@@ -21,6 +22,25 @@ enum Stop {
     Fault(#[from] Fault),
     #[error("{0}")]
     Io(#[from] io::Error),
+}
+
+// Reads until the buffer is full or the input ends, and says how many bytes came. Each read asks for as much as there is room
+// for: what a read of a socket that keeps messages apart does not ask for is lost.
+fn fill(input: &mut impl Read, buffer: &mut [u8]) -> io::Result<usize>
+    ensures { IfOk result (λ n. n ≤ length buffer.old) }
+{
+    let mut filled = 0;
+    for _ in 0..MOST_BYTES {
+        if filled >= buffer.len() {
+            break;
+        }
+        let count = input.read(&mut buffer[filled..])?;
+        if count == 0 {
+            break;
+        }
+        filled += count;
+    }
+    Ok(filled)
 }
 
 // Takes the records of a deck one by one, and answers the draft. Records and bytes are counted here, since both counts
@@ -64,9 +84,9 @@ fn check(rt: &impl Print, bytes: &[u8]) -> Result<(), Stop> {
 }
 
 fn main(rt: HostRuntime) -> io::Result<()> {
-    let mut deck: ArrayVec<u8, MOST_BYTES> = ArrayVec::new();
-    io::copy(&mut rt.stdin().take(MOST_BYTES as u64), &mut deck)?;
-    match check(&rt, &deck) {
+    let mut buffer = [0; MOST_BYTES];
+    let count = fill(&mut rt.stdin(), &mut buffer)?;
+    match check(&rt, &buffer[..count]) {
         Ok(()) => Ok(()),
         Err(Stop::Fault(fault)) => rt.stdout().write_all(&fault.row()),
         Err(Stop::Io(error)) => Err(error),
